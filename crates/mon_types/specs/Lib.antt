@@ -1,0 +1,9 @@
+pub mod Shape
+pub mod Words
+pub mod Locks
+pub mod Owns
+pub mod Enclaves
+pub mod Threads
+pub mod Objects
+pub mod Calls
+pub mod Built
