@@ -1,0 +1,97 @@
+-- Calls on enclaves: create, load_table, load_page, reserve, init, delete, enclave_info and set_satp.
+-- This project's own.
+use Rattle.std.specs.Prelude.{ℕ, ◌+◌, Bool, false, ◌==◌, ◌||◌, ◌&&◌, not, if◌then◌else◌, List, ◌∷◌, Some}
+use Rattle.mon_types.specs.Shape.{Shape}
+use Rattle.mon_types.specs.Enclaves.{empty_enclave, stage_code}
+use Rattle.mon_types.specs.declared.region.Region.{Region}
+use Rattle.mon_types.specs.declared.region.Region.TheVariants as regions
+use Rattle.mon_types.specs.declared.enclave.Stage.TheVariants as stages
+use Rattle.mon_types.specs.declared.enclave.Loaded.{Loaded}
+use Rattle.mon_types.specs.declared.enclave.Enclave.{Enclave}
+use Rattle.mon_types.specs.declared.thread.Mode.TheVariants as modes
+use Rattle.mon_types.specs.declared.reply.Reply.{Reply}
+use Rattle.mon_types.specs.declared.reply.Reply.TheVariants as replies
+use Rattle.mon_model.specs.Replies.{done, told_eight}
+use Rattle.mon_model.specs.RegionCalls.{acts_for, is_empty, is_loading}
+use Rattle.mon_model.specs.Loading.{in_range, has_root, takes_page, reserves_page, has_place_for_table, has_place_for_leaf}
+use Rattle.mon_model.specs.Measure.{Item, Table, Page, Init, reserved_level, measure_created, measure_with}
+
+abbrev pub done_if : Bool → Reply
+done_if b = if b then done else replies.InvalidState
+
+-- ---- create
+
+abbrev pub create_reply : Enclave → Reply
+create_reply enclave = done_if (is_empty enclave.stage)
+
+abbrev pub created : ℕ → ℕ → Enclave
+created base size = record empty_enclave { stage = stages.Loading; base = base; size = size; measure = measure_created base size }
+
+-- the enclave with a longer measurement
+abbrev pub measured : Enclave → Item → Enclave
+measured enclave item = record enclave { measure = measure_with enclave.measure item }
+
+-- ---- load_table, load_page, reserve: first the record decides, then the items
+
+abbrev pub table_fits : Enclave → ℕ → ℕ → Bool
+table_fits enclave va level = if level == 2 then not (has_root enclave) else in_range enclave va && has_root enclave
+
+abbrev pub leaf_fits : Enclave → ℕ → Bool
+leaf_fits enclave va = in_range enclave va && has_root enclave
+
+abbrev pub load_table_reply : Shape → Enclave → List Loaded → ℕ → ℕ → ℕ → Reply
+load_table_reply shape enclave items va level page =
+    done_if (takes_page shape enclave page && table_fits enclave va level && (level == 2 || has_place_for_table items va level))
+
+abbrev pub is_os_owned : Region → Bool
+is_os_owned regions.Free = false
+is_os_owned (regions.Owned owner since) = acts_for modes.Os owner
+is_os_owned (regions.Blocked owner since at) = false
+is_os_owned (regions.Offered to at) = false
+
+abbrev pub load_page_reply : Shape → Enclave → List Loaded → Region → ℕ → ℕ → Reply
+load_page_reply shape enclave items source va page =
+    if takes_page shape enclave page && leaf_fits enclave va
+    then (if is_os_owned source then done_if (has_place_for_leaf items va) else replies.AccessDenied)
+    else replies.InvalidState
+
+abbrev pub reserve_reply : Shape → Enclave → List Loaded → ℕ → ℕ → Reply
+reserve_reply shape enclave items va page =
+    done_if (reserves_page shape enclave page && leaf_fits enclave va && has_place_for_leaf items va)
+
+-- the record after a table, a page or a reserved page
+abbrev pub with_table : Enclave → ℕ → ℕ → ℕ → Enclave
+with_table enclave va level page =
+    record (measured enclave (Table va level)) { root = if level == 2 then Some page else enclave.root; next_page = page + 1 }
+
+abbrev pub with_page : Enclave → ℕ → ℕ → ℕ → List ℕ → Enclave
+with_page enclave va page perms digest = record (measured enclave (Page va perms digest)) { next_page = page + 1 }
+
+abbrev pub with_reserved : Enclave → ℕ → ℕ → ℕ → Enclave
+with_reserved enclave va page perms = record (measured enclave (Table va (reserved_level perms))) { next_page = page + 1 }
+
+-- ---- init
+
+abbrev pub init_reply : Enclave → Reply
+init_reply enclave = done_if (is_loading enclave.stage && has_root enclave && not (enclave.threads == 0))
+
+abbrev pub initialized : Enclave → Enclave
+initialized enclave = record (measured enclave Init) { stage = stages.Initialized }
+
+-- ---- delete
+
+abbrev pub delete_reply : Enclave → Reply
+delete_reply enclave = done_if (not (is_empty enclave.stage) && enclave.threads == 0)
+
+-- a region of a deleted enclave at ticket k; one that is not owned, which never comes, stays
+abbrev pub deleted : Region → ℕ → Region
+deleted regions.Free k = regions.Free
+deleted (regions.Owned owner since) k = regions.Blocked owner since k
+deleted (regions.Blocked owner since at) k = regions.Blocked owner since at
+deleted (regions.Offered to at) k = regions.Offered to at
+
+-- ---- enclave_info
+
+-- stage, base, size, region set, measurement
+abbrev pub enclave_info_reply : Enclave → Reply
+enclave_info_reply enclave = told_eight (stage_code enclave.stage ∷ enclave.base ∷ enclave.size ∷ enclave.regions ∷ enclave.measure)

@@ -1,0 +1,16 @@
+pub mod State
+pub mod Bits
+pub mod Replies
+pub mod Early
+pub mod RegionCalls
+pub mod Measure
+pub mod Loading
+pub mod EnclaveCalls
+pub mod ThreadCalls
+pub mod MailCalls
+pub mod Step
+pub mod Tries
+pub mod EveryReply
+pub mod EveryStep
+pub mod Laws
+pub mod Examples
