@@ -1,0 +1,91 @@
+-- When logs are a legal history of the sequential monitor. This project's own.
+use Rattle.std.specs.Prelude.{◌≡◌, ℕ, ◌+◌, ◌<◌, Bool, true, false, if◌then◌else◌, List, [], ◌∷◌, is_some}
+use Rattle.mon_types.specs.Shape.{Shape}
+use Rattle.mon_types.specs.declared.call.Call.{Call}
+use Rattle.mon_types.specs.declared.call.Call.TheVariants as calls
+use Rattle.hist.specs.declared.event.Entry.{Entry}
+use Rattle.hist.specs.declared.finished.Finished.{Finished}
+use Rattle.hist.specs.Logged.{Logged}
+use Rattle.hist.specs.History.{entries_of, history, digest_of, after_entry, last_state}
+use Rattle.mon_model.specs.State.{State, start}
+use Rattle.mon_model.specs.Replies.{is_done, is_concurrent}
+use Rattle.mon_model.specs.Step.{monitor_step}
+use Rattle.mon_model.specs.Tries.{tries, tried_set}
+
+-- the tickets are k, k + 1, k + 2 and so on, each once
+abbrev pub AreTickets : ℕ → List Entry → Type 0
+AreTickets k [] = Unit {0}
+AreTickets k (e ∷ es) = (e.ticket ≡ k) × AreTickets (k + 1) es
+
+-- One entry of a core's log: it is this core's, has this serial, and its ticket is above that of the
+-- entry before it.
+pub record IsNext (owner next before : ℕ) (e : Entry) : Type 0 where
+  pub core : e.core ≡ owner
+  pub serial : e.serial ≡ next
+  pub ascends : before < e.ticket
+
+-- the entries of one core from this serial on, above this ticket
+abbrev pub AreOwn : ℕ → ℕ → ℕ → List Entry → Type 0
+AreOwn core serial before [] = Unit {0}
+AreOwn core serial before (e ∷ es) = IsNext core serial before e × AreOwn core (serial + 1) e.ticket es
+
+-- the logs of the cores from this one on
+abbrev pub AreOwnLogs : ℕ → List Logged → Type 0
+AreOwnLogs core [] = Unit {0}
+AreOwnLogs core (log ∷ logs) = AreOwn core 0 0 (entries_of log.events) × AreOwnLogs (core + 1) logs
+
+abbrev pub is_load_page : Call → Bool
+is_load_page (calls.Block r) = false
+is_load_page (calls.Free r) = false
+is_load_page (calls.Assign r to) = false
+is_load_page calls.Flush = false
+is_load_page (calls.RegionInfo r) = false
+is_load_page (calls.Create e base size) = false
+is_load_page (calls.LoadTable e va level page) = false
+is_load_page (calls.LoadPage e va page src perms) = true
+is_load_page (calls.LoadThread e t entry sp) = false
+is_load_page (calls.Init e) = false
+is_load_page (calls.DeleteThread e t) = false
+is_load_page (calls.Delete e) = false
+is_load_page (calls.Enter e t) = false
+is_load_page calls.Exit = false
+is_load_page (calls.Aex saved) = false
+is_load_page calls.Restore = false
+is_load_page (calls.Accept m from) = false
+is_load_page (calls.Send to m w0 w1 w2 w3) = false
+is_load_page (calls.Read m) = false
+is_load_page (calls.EnclaveInfo e) = false
+is_load_page (calls.SetSatp v) = false
+is_load_page (calls.AcceptRegion r) = false
+is_load_page (calls.Reserve e va page perms) = false
+is_load_page (calls.Unknown number args) = false
+
+-- an entry has a page exactly where it is a load_page that answered Ok
+abbrev pub has_its_page : Entry → Bool
+has_its_page e = if is_load_page e.call then is_done e.reply else false
+
+-- One entry of the history, where the state before it is s: a call that met no held lock has the reply
+-- of the sequential monitor and tried exactly the objects that the monitor's tables name.
+pub record IsLegalEntry (s : State) (e : Entry) : Type 0 where
+  pub reply : is_concurrent e.reply ≡ false → e.reply ≡ (monitor_step s e.core e.call (digest_of e.page) e.ticket).1
+  pub tried : is_concurrent e.reply ≡ false → e.tried ≡ tried_set (tries s e.core e.call)
+  pub page : is_some e.page ≡ has_its_page e
+
+abbrev pub AreLegalEntries : State → List Entry → Type 0
+AreLegalEntries s [] = Unit {0}
+AreLegalEntries s (e ∷ es) = IsLegalEntry s e × AreLegalEntries (after_entry s e) es
+
+-- The logs are one legal history: tickets from 1 without gap, each log its own core's entries in
+-- order, and each entry what the sequential monitor does at its ticket.
+pub record Legal (shape : Shape) (logs : List Logged) : Type 0 where
+  pub tickets : AreTickets 1 (history logs)
+  pub own : AreOwnLogs 0 logs
+  pub entries : AreLegalEntries (start shape) (history logs)
+
+-- the tables of a finished run are S(n)
+pub record HasLastTables (f : Finished) : Type 0 where
+  pub regions : f.regions ≡ (last_state f.config f.logs).regions
+  pub enclaves : f.enclaves ≡ (last_state f.config f.logs).enclaves
+  pub threads : f.threads ≡ (last_state f.config f.logs).threads
+  pub flushed : f.flushed ≡ (last_state f.config f.logs).flushed
+  pub modes : f.modes ≡ (last_state f.config f.logs).modes
