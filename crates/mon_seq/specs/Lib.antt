@@ -1,0 +1,5 @@
+pub mod Sequential
+pub mod Tables
+pub mod Held
+pub mod Tried
+pub mod Turns
