@@ -1,0 +1,3 @@
+pub mod Signed
+pub mod Multiply
+pub mod Amo
