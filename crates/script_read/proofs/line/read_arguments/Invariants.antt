@@ -1,0 +1,15 @@
+use Rattle.std.proofs.Common.{◌≡◌, ◌+◌, length, take}
+use Rattle.script_read.specs.Text.{words_of}
+use Rattle.script_read.specs.Reading.{arguments_of}
+use Rattle.script_read.proofs.Arguments.{behind}
+use Rattle.script_read.proofs.line.read_arguments.Given as goal
+
+abbrev pub invariant-loop-word : goal.invariant-loop-word
+invariant-loop-word l = record {
+  read : behind (take l.place l.args) (arguments_of l.form l.place (words_of l.rest)) ≡ arguments_of l.form 0 (words_of l.text);
+  words : l.place + length (words_of l.rest) ≡ length (words_of l.text);
+  size : length l.args ≡ 6;
+}
+
+abbrev pub decreases-loop-word : goal.decreases-loop-word
+decreases-loop-word l = length l.rest

@@ -1,0 +1,137 @@
+-- The grammar of scripts, apart from the way in which they are read. All of it is this project's own.
+use Rattle.std.specs.Prelude.{◌≡◌, ℕ, ◌+◌, ◌-◌, ◌<◌, ◌≤◌, ◌⊎◌, Bool, true, false, ◌==◌, List, [], ◌∷◌, ◌++◌, length, replicate, codes, Option, Some, None, ⊤}
+use Rattle.std.specs.List.{list_all}
+use Rattle.std.specs.Option.{option_to_list, unwrap_or}
+use Rattle.mon_types.specs.Calls.{call_name, call_args}
+use Rattle.mon_types.specs.Built.{is_built_call}
+use Rattle.mon_types.specs.declared.call.Call.{Call}
+use Rattle.mon_types.specs.declared.call.Call.TheVariants as calls
+use Rattle.mon_types.specs.declared.script.Line.{Line}
+use Rattle.mon_types.specs.declared.script.Line.TheVariants as lines
+use Rattle.script_read.specs.Text.{is_in_line, ends_in_return, is_plain, is_blank, is_letter}
+use Rattle.script_read.specs.Numbers.{IsNumber}
+use Rattle.script_read.specs.Forms.{os_word}
+
+-- ---- words
+
+-- nothing but blanks
+abbrev pub AreBlank : List ℕ → Type 0
+AreBlank bytes = list_all is_blank bytes ≡ true
+
+-- nothing, or a blank and whatever follows
+abbrev pub BeginsBlank : List ℕ → Type 0
+BeginsBlank [] = ⊤
+BeginsBlank (b ∷ bs) = is_blank b ≡ true
+
+-- the text is blanks, then the word, which has bytes and no blank among them, and then the rest, which begins with a blank where there is any
+pub record IsFirstWord (text word rest : List ℕ) : Type 0 where
+  pub blanks : List ℕ
+  pub are_blank : AreBlank blanks
+  pub some : 0 < length word
+  pub letters : list_all is_letter word ≡ true
+  pub apart : BeginsBlank rest
+  pub text_is : text ≡ blanks ++ (word ++ rest)
+
+-- the text is these words, with blanks between them, and round them where there are any
+abbrev pub AreWords : List ℕ → List (List ℕ) → Type 0
+AreWords text [] = AreBlank text
+AreWords text (word ∷ words) = (rest : List ℕ) × IsFirstWord text word rest × AreWords rest words
+
+-- ---- lines
+
+-- `os` may stand for this argument of the call, counted from 0: the second argument of assign alone
+abbrev pub is_owner_place : Call → ℕ → Bool
+is_owner_place (calls.Assign r to) place = place == 1
+is_owner_place call place = false
+
+-- the word stands for this argument of the call
+abbrev pub IsArgument : Call → ℕ → List ℕ → ℕ → Type 0
+IsArgument call place word n = IsNumber word n ⊎ ((is_owner_place call place ≡ true) × (word ≡ codes "os") × (n ≡ os_word))
+
+-- the words stand for the arguments from this place on
+abbrev pub AreArguments : Call → ℕ → List (List ℕ) → List ℕ → Type 0
+AreArguments call place [] [] = ⊤
+AreArguments call place [] (n ∷ ns) = ⊥
+AreArguments call place (word ∷ words) [] = ⊥
+AreArguments call place (word ∷ words) (n ∷ ns) = IsArgument call place word n × AreArguments call (place + 1) words ns
+
+-- the words are the name of the call and its arguments
+pub record IsCallLine (words : List (List ℕ)) (call : Call) : Type 0 where
+  pub built : is_built_call call ≡ true
+  pub args : List (List ℕ)
+  pub words_are : words ≡ call_name call ∷ args
+  pub are_arguments : AreArguments call 0 args (call_args call)
+
+-- what the words of a line stand for; so far no words, or a call that is built
+abbrev pub StandsFor : List (List ℕ) → Option Line → Type 0
+StandsFor words None = words ≡ []
+StandsFor words (Some (lines.Make call)) = IsCallLine words call
+StandsFor words (Some (lines.Run n)) = ⊥
+StandsFor words (Some lines.Tick) = ⊥
+StandsFor words (Some (lines.LoadWord va)) = ⊥
+StandsFor words (Some (lines.StoreWord va value)) = ⊥
+StandsFor words (Some (lines.SetPc pc)) = ⊥
+StandsFor words (Some (lines.SetReg x value)) = ⊥
+
+-- nothing, or a number sign and whatever follows
+abbrev pub IsComment : List ℕ → Type 0
+IsComment [] = ⊤
+IsComment (b ∷ bs) = b ≡ 35
+
+-- the text of a line is words and a comment
+pub record IsLine (text : List ℕ) (line : Option Line) : Type 0 where
+  pub front : List ℕ
+  pub comment : List ℕ
+  pub words : List (List ℕ)
+  pub text_is : text ≡ front ++ comment
+  pub plain : list_all is_plain front ≡ true
+  pub is_comment : IsComment comment
+  pub are_words : AreWords front words
+  pub stands : StandsFor words line
+
+-- the texts of lines stand for these lines, empty ones for none
+abbrev pub AreLines : List (List ℕ) → List Line → Type 0
+AreLines [] made = made ≡ []
+AreLines (text ∷ texts) made = (line : Option Line) × (others : List Line) × IsLine text line × (made ≡ option_to_list line ++ others) × AreLines texts others
+
+-- ---- the whole file
+
+-- the text is the line, which has no line feed, then its end, and then the rest; a return right before the line feed is part of the end, and not of the line
+pub record IsFirstLine (text line rest : List ℕ) : Type 0 where
+  pub end : List ℕ
+  pub in_line : list_all is_in_line line ≡ true
+  pub is_end : ((end ≡ 10 ∷ []) × (ends_in_return line ≡ false)) ⊎ (end ≡ 13 ∷ 10 ∷ [])
+  pub text_is : text ≡ line ++ (end ++ rest)
+
+-- the text is one line that no line feed ends, the last one
+pub record IsLastLine (text line : List ℕ) (lines : List (List ℕ)) : Type 0 where
+  pub in_line : list_all is_in_line line ≡ true
+  pub some : 0 < length line
+  pub text_is : text ≡ line
+  pub last : lines ≡ []
+
+-- the text is these lines
+abbrev pub AreTextLines : List ℕ → List (List ℕ) → Type 0
+AreTextLines text [] = text ≡ []
+AreTextLines text (line ∷ lines) = ((rest : List ℕ) × IsFirstLine text line rest × AreTextLines rest lines) ⊎ IsLastLine text line lines
+
+-- the most bytes of a script
+abbrev pub limit : ℕ
+limit = 1048576
+
+-- how many lists of lines a script has: the count of cores that is given, or one, since no line names a core yet
+abbrev pub core_count : Option ℕ → ℕ
+core_count cores = unwrap_or cores 1
+
+-- the lists of lines: those of core 0, and none for each further core
+abbrev pub for_cores : Option ℕ → List Line → List (List Line)
+for_cores cores made = made ∷ replicate (core_count cores - 1) []
+
+-- the bytes are a script, which has these lists of lines where a count of cores is given, or none
+pub record IsScript (cores : Option ℕ) (bytes : List ℕ) (script : List (List Line)) : Type 0 where
+  pub within : length bytes ≤ limit
+  pub texts : List (List ℕ)
+  pub made : List Line
+  pub are_texts : AreTextLines bytes texts
+  pub are_lines : AreLines texts made
+  pub script_is : script ≡ for_cores cores made
