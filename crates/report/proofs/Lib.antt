@@ -1,0 +1,5 @@
+pub mod Digits
+pub mod Sets
+pub mod Joined
+pub mod Pieces
+pub mod Histories

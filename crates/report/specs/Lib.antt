@@ -1,0 +1,6 @@
+pub mod Objects
+pub mod Calls
+pub mod Events
+pub mod Tables
+pub mod Report
+pub mod Written
