@@ -1,0 +1,41 @@
+-- The line that the program prints for an answer other than Ok. This project's own.
+use Rattle.std.specs.Prelude.{ℕ, List, [], ◌++◌, codes}
+use Rattle.std.specs.Fmt.{decimal}
+use Rattle.script_read.specs.declared.fault.LineKind.{LineKind}
+use Rattle.script_read.specs.declared.fault.LineKind.TheVariants as kinds
+use Rattle.script_read.specs.declared.fault.ScriptFault.{ScriptFault}
+use Rattle.script_read.specs.declared.fault.ScriptFault.TheVariants as faults
+use Rattle.sanctum.specs.declared.status.Status.{Status}
+use Rattle.sanctum.specs.declared.status.Status.TheVariants as answers
+
+unfoldable pub kind_text : LineKind → List ℕ
+kind_text kinds.UnknownWord = codes " unknown word\n"
+kind_text kinds.MissingWord = codes " missing word\n"
+kind_text kinds.ExtraWord = codes " extra word\n"
+kind_text kinds.BadNumber = codes " bad number\n"
+kind_text kinds.BadCore = codes " bad core\n"
+
+-- the line of the script, counted from 1, and what is wrong with it
+unfoldable pub script_line_text : ℕ → List ℕ → List ℕ
+script_line_text line kind = codes "refused: script line " ++ decimal line ++ kind
+
+unfoldable pub turns_over_text : List ℕ
+turns_over_text = codes " turns over\n"
+
+unfoldable pub not_built_text : List ℕ
+not_built_text = codes " not built\n"
+
+unfoldable pub script_fault_line : ScriptFault → List ℕ
+script_fault_line faults.TooLong = codes "refused: script too long\n"
+script_fault_line (faults.BadLine line kind) = script_line_text line (kind_text kind)
+script_fault_line (faults.TurnsOver line) = script_line_text line turns_over_text
+script_fault_line (faults.NotBuilt line) = script_line_text line not_built_text
+
+-- there is none for Ok and for a write fault
+unfoldable pub fault_line : Status → List ℕ
+fault_line answers.Ok = []
+fault_line answers.Usage = codes "refused: usage\n"
+fault_line (answers.ScriptRefused fault) = script_fault_line fault
+fault_line answers.ReadFault = codes "refused: read fault\n"
+fault_line answers.WriteFault = []
+fault_line answers.OutOfMemory = codes "refused: out of memory\n"

@@ -1,0 +1,87 @@
+//! The fault lines.
+
+ghost use Rattle.std.specs.Prelude.{◌≡◌, ◌≤◌, ◌+◌, ◌++◌, length};
+ghost use Rattle.sanctum.specs.Faults.{kind_text, script_line_text, turns_over_text, not_built_text, script_fault_line, fault_line};
+
+use crate::status::Status;
+use report::Line;
+use script_read::{LineKind, ScriptFault};
+
+/// A line with this text.
+fn line_with(text: &str) -> Line
+    requires { length text.now ≤ 100 }
+    ensures { result ≡ text.now }
+{
+    let mut line = Line::new();
+    line.text(text);
+    line
+}
+
+/// What is wrong with a line of a script.
+#[tactic(auto, unfolding(crate::specs::Faults::kind_text))]
+fn kind_name(kind: &LineKind) -> &'static str
+    ensures text { result.now ≡ kind_text kind.now }
+    ensures short { length result.now ≤ 20 }
+{
+    match kind {
+        LineKind::UnknownWord => " unknown word\n",
+        LineKind::MissingWord => " missing word\n",
+        LineKind::ExtraWord => " extra word\n",
+        LineKind::BadNumber => " bad number\n",
+        LineKind::BadCore => " bad core\n",
+    }
+}
+
+#[tactic(auto, unfolding(crate::specs::Faults::turns_over_text))]
+fn turns_over() -> &'static str
+    ensures text { result.now ≡ turns_over_text }
+    ensures short { length result.now ≤ 20 }
+{
+    " turns over\n"
+}
+
+#[tactic(auto, unfolding(crate::specs::Faults::not_built_text))]
+fn not_built() -> &'static str
+    ensures text { result.now ≡ not_built_text }
+    ensures short { length result.now ≤ 20 }
+{
+    " not built\n"
+}
+
+#[tactic(auto, unfolding(crate::specs::Faults::script_line_text))]
+fn line_of_script(number: u32, kind: &str) -> Line
+    requires { length kind.now ≤ 20 }
+    ensures { result ≡ script_line_text number kind.now }
+{
+    let mut line = Line::new();
+    line.text("refused: script line ");
+    line.number(u64::from(number));
+    line.text(kind);
+    line
+}
+
+#[tactic(auto, unfolding(crate::specs::Faults::script_fault_line))]
+fn line_of_script_fault(fault: &ScriptFault) -> Line
+    ensures { result ≡ script_fault_line fault.now }
+{
+    match fault {
+        ScriptFault::TooLong => line_with("refused: script too long\n"),
+        ScriptFault::BadLine { line, kind } => line_of_script(*line, kind_name(kind)),
+        ScriptFault::TurnsOver { line } => line_of_script(*line, turns_over()),
+        ScriptFault::NotBuilt { line } => line_of_script(*line, not_built()),
+    }
+}
+
+/// The line that is printed for an answer; there is none for Ok and for a write fault.
+#[tactic(auto, unfolding(crate::specs::Faults::fault_line))]
+pub fn line_of(status: &Status) -> Line
+    ensures { result ≡ fault_line status.now }
+{
+    match status {
+        Status::Ok | Status::WriteFault => Line::new(),
+        Status::Usage => line_with("refused: usage\n"),
+        Status::ScriptRefused(fault) => line_of_script_fault(fault),
+        Status::ReadFault => line_with("refused: read fault\n"),
+        Status::OutOfMemory => line_with("refused: out of memory\n"),
+    }
+}

@@ -1,0 +1,261 @@
+//! The worked rows that exist by now, each by its name, over files and output in memory.
+
+use crate::status::Status;
+use crate::top::sanctum;
+use sm_ports::{
+    Depot, DripDepot, DripSink, MapDepot, OpenGate, Sink, StillDepot, StillSink, VecSink,
+};
+use std::alloc::{AllocError, Global};
+use std::test::Fail;
+use std::thread::Threads;
+
+/// Room for every report of this file.
+const ROOM: usize = 1 << 21;
+
+const FIRST: &str = "block 3\nfree 3\nflush\nfree 3\nassign 3 os\n";
+
+const FIRST_REPORT: &str = "sanctum report 1
+machine cores 1 regions 8 pages 1 shift 0
+call 1 core 0 serial 0 block 3 = ok tried r3
+call 2 core 0 serial 1 free 3 = not_flushed tried r3 c0
+call 3 core 0 serial 2 flush = ok tried c0
+call 4 core 0 serial 3 free 3 = ok tried r3 c0
+call 5 core 0 serial 4 assign 3 18446744073709551615 = ok tried r3
+log 0
+entry 1
+entry 2
+entry 3
+entry 4
+entry 5
+region 0 owned os since 0
+region 1 owned os since 0
+region 2 owned os since 0
+region 3 owned os since 5
+region 4 owned os since 0
+region 5 owned os since 0
+region 6 owned os since 0
+region 7 owned os since 0
+core 0 os flushed 3
+end
+";
+
+const HEAD: &str = "sanctum report 1\nmachine cores 1 regions 8 pages 1 shift 0\n";
+
+const TABLES: &str = "region 0 owned os since 0
+region 1 owned os since 0
+region 2 owned os since 0
+region 3 owned os since 0
+region 4 owned os since 0
+region 5 owned os since 0
+region 6 owned os since 0
+region 7 owned os since 0
+core 0 os flushed 0
+end
+";
+
+/// The words of a command line.
+fn words_of(alloc: Global, words: &[&str]) -> Result<Vec<String>, AllocError> {
+    let mut list = Vec::new(alloc);
+    for word in words {
+        list.push(String::from_str(alloc, word)?)?;
+    }
+    Ok(list)
+}
+
+/// One file, of the name "S".
+fn file_of(alloc: Global, bytes: &[u8]) -> Result<Vec<(String, Vec<u8>)>, AllocError> {
+    let mut files = Vec::new(alloc);
+    files.push((
+        String::from_str(alloc, "S")?,
+        Vec::from_slice(alloc, bytes)?,
+    ))?;
+    Ok(files)
+}
+
+/// A text over and over.
+fn repeated(alloc: Global, text: &str, times: u32) -> Result<Vec<u8>, AllocError> {
+    let mut bytes = Vec::new(alloc);
+    for _ in 0..times {
+        bytes.extend_from_slice(text.as_bytes())?;
+    }
+    Ok(bytes)
+}
+
+/// Runs the words over one file, and a sink that fails the listed calls.
+fn run<R: Threads + Sync>(
+    rt: &R,
+    alloc: Global,
+    words: &[&str],
+    file: &[u8],
+    fails: &[u32],
+) -> Result<(Status, VecSink), AllocError> {
+    let mut depot = MapDepot::new(file_of(alloc, file)?, Vec::new(alloc));
+    let mut out = VecSink::new(alloc, ROOM, Vec::from_slice(alloc, fails)?)?;
+    let words = words_of(alloc, words)?;
+    let status = sanctum(rt, alloc, &words, &mut depot, &mut out, &OpenGate);
+    Ok((status, out))
+}
+
+#[test]
+fn rows_with_a_report(rt: HostRuntime) -> Result<(), Fail> {
+    let alloc = rt.alloc();
+    for (name, script, calls, entries) in [
+        ("empty-script", "", "", ""),
+        (
+            "bad-region",
+            "block 0\nblock 64\n",
+            "call 1 core 0 serial 0 block 0 = invalid_value tried\ncall 2 core 0 serial 1 block 64 = invalid_value tried\n",
+            "entry 1\nentry 2\n",
+        ),
+        (
+            "free-unblocked",
+            "free 3\n",
+            "call 1 core 0 serial 0 free 3 = invalid_state tried r3\n",
+            "entry 1\n",
+        ),
+        (
+            "assign to an empty slot, and what a region is",
+            "assign 0x3 2\t# empty\r\n\n  region_info 03",
+            "call 1 core 0 serial 0 assign 3 2 = invalid_state tried e2 r3\ncall 2 core 0 serial 1 region_info 3 = ok 1 18446744073709551615 0 0 tried r3\n",
+            "entry 1\nentry 2\n",
+        ),
+    ] {
+        let (status, out) = run(&rt, alloc, &["script", "S"], script.as_bytes(), &[])?;
+        let want = format!(in alloc; "{HEAD}{calls}log 0\n{entries}{TABLES}")?;
+        assert_eq!(rt; status.code(), 0, "{name}");
+        assert_eq!(rt; out.as_slice(), want.as_bytes(), "{name}");
+    }
+    let (status, out) = run(&rt, alloc, &["script", "S"], FIRST.as_bytes(), &[])?;
+    assert_eq!(rt; status.code(), 0, "first-path");
+    assert_eq!(rt; out.as_slice(), FIRST_REPORT.as_bytes(), "first-path");
+    Ok(())
+}
+
+#[test]
+fn rows_with_a_refusal(rt: HostRuntime) -> Result<(), Fail> {
+    let alloc = rt.alloc();
+    let too_long = repeated(alloc, "#", 1_048_577)?;
+    for (name, words, file, code, want) in [
+        (
+            "usage",
+            [].as_slice(),
+            b"".as_slice(),
+            2,
+            "refused: usage\n",
+        ),
+        ("usage", &["run", "a"], b"", 2, "refused: usage\n"),
+        ("usage", &["--help"], b"", 2, "refused: usage\n"),
+        (
+            "script-faults",
+            &["script", "S"],
+            b"block",
+            4,
+            "refused: script line 1 missing word\n",
+        ),
+        (
+            "script-faults",
+            &["script", "S"],
+            b"run 1000000\nrun 1",
+            4,
+            "refused: script line 1 not built\n",
+        ),
+        (
+            "missing-file",
+            &["script", "X"],
+            b"",
+            5,
+            "refused: read fault\n",
+        ),
+        (
+            "script-too-long",
+            &["script", "S"],
+            &too_long,
+            4,
+            "refused: script too long\n",
+        ),
+    ] {
+        let (status, out) = run(&rt, alloc, words, file, &[])?;
+        assert_eq!(rt; status.code(), code, "{name}");
+        assert_eq!(rt; out.as_slice(), want.as_bytes(), "{name}");
+    }
+    Ok(())
+}
+
+/// `events-run-out`: before line 16,306 fewer than 80 of 16,384 events are left.
+#[test]
+fn events_run_out(rt: HostRuntime) -> Result<(), Fail> {
+    let alloc = rt.alloc();
+    let script = repeated(alloc, "flush\n", 16_306)?;
+    let (status, out) = run(&rt, alloc, &["script", "S"], &script, &[])?;
+    assert_eq!(rt; status.code(), 0);
+    let text = str::from_utf8(out.as_slice())?;
+    assert_eq!(rt;
+        text.lines()
+            .filter(|line| line.starts_with("call "))
+            .count(),
+        16_305
+    );
+    assert!(rt; text.contains("\nentry 16305\nlimit 16306\nregion 0 "));
+    Ok(())
+}
+
+/// Rows `sink-fails-at-k`, `sink-fails-late`, `usage-sink-fails`, and a sink that fails its call 1.
+#[test]
+fn rows_with_a_failing_sink(rt: HostRuntime) -> Result<(), Fail> {
+    let alloc = rt.alloc();
+    for k in 0..23u32 {
+        let (status, out) = run(&rt, alloc, &["script", "S"], FIRST.as_bytes(), &[k])?;
+        assert_eq!(rt; status.code(), 6, "call {k}");
+        assert!(rt;
+            FIRST_REPORT.as_bytes().starts_with(out.as_slice()),
+            "call {k}"
+        );
+        let lines = out.as_slice().iter().filter(|byte| **byte == b'\n').count();
+        assert_eq!(rt; lines, k as usize, "call {k}");
+    }
+    for (name, words, file, fails, code, want) in [
+        (
+            "sink-fails-late",
+            ["script", "S"].as_slice(),
+            FIRST,
+            23,
+            0,
+            FIRST_REPORT,
+        ),
+        ("usage-sink-fails", &[], "", 0, 6, ""),
+        (
+            "image-cut",
+            &["script", "S"],
+            "",
+            1,
+            6,
+            "sanctum report 1\n",
+        ),
+    ] {
+        let (status, out) = run(&rt, alloc, words, file.as_bytes(), &[fails])?;
+        assert_eq!(rt; status.code(), code, "{name}");
+        assert_eq!(rt; out.as_slice(), want.as_bytes(), "{name}");
+    }
+    Ok(())
+}
+
+/// Row `drip`, and the empty script over a depot and a sink that never fail.
+#[test]
+fn other_depots_and_sinks(rt: HostRuntime) -> Result<(), Fail> {
+    let alloc = rt.alloc();
+    let words = words_of(alloc, &["script", "S"])?;
+    let none = Vec::new(alloc);
+    let mut depot = DripDepot::new(file_of(alloc, FIRST.as_bytes())?, none, 1);
+    let mut out = DripSink::new(alloc, ROOM, Vec::new(alloc), 1)?;
+    let status = sanctum(&rt, alloc, &words, &mut depot, &mut out, &OpenGate);
+    assert_eq!(rt; status.code(), 0, "drip");
+    assert_eq!(rt; out.as_slice(), FIRST_REPORT.as_bytes(), "drip");
+
+    let mut still = StillDepot::new(file_of(alloc, b"")?);
+    let mut sink = StillSink::new(alloc)?;
+    let status = sanctum(&rt, alloc, &words, &mut still, &mut sink, &OpenGate);
+    let want = format!(in alloc; "{HEAD}log 0\n{TABLES}")?;
+    assert_eq!(rt; status.code(), 0, "empty-script");
+    assert_eq!(rt; sink.as_slice(), want.as_bytes(), "empty-script");
+    Ok(())
+}
