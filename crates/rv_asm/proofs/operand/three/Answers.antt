@@ -1,0 +1,6 @@
+use Rattle.std.proofs.Common.{sym, ◌∙◌}
+use Rattle.rv_asm.proofs.Operands.{over_three}
+use Rattle.rv_asm.proofs.operand.three.Goals as goal
+
+pub returns-in_default-Some-split_comma-2 : goal.returns-in_default-Some-split_comma-2
+returns-in_default-Some-split_comma-2 c = over_three c.args.text.now _ _ _ _ _ _ c.in_default-Some.rest c.in_default-Some-split_comma.rest c.in_default-Some-split_comma-2.field-0-1 (sym c.is_empty.ensures ∙ c.if-is_empty.false) c.split_comma.ensures c.in_default-Some.is-1 (rw c.in_default-Some.rest-is at c.split_comma-2.ensures) c.in_default-Some-split_comma.is-1 (rw c.in_default-Some-split_comma.rest-is at c.split_comma-3.ensures) c.in_default-Some-split_comma-2.is-1

@@ -1,0 +1,9 @@
+pub mod Names
+pub mod Numbers
+pub mod Text
+pub mod Statements
+pub mod Reading
+pub mod Grammar
+pub mod Printing
+pub mod Parts
+pub mod Answers
