@@ -1,78 +1,135 @@
 -- What follows from how the program ended.
 use Rattle.std.proofs.Common.{◌≡◌, ℕ, List, Option, Some, None, refl, sym, ap, subst, ◌∙◌, inl, inr, ◌⊎◌}
-use Rattle.std.specs.Prelude.{IfSome, IsSomeAnd}
-use Rattle.std.specs.Option.{option_and_then}
+use Rattle.std.specs.Prelude.{IsSomeAnd}
 use Rattle.std.specs.Io.KnownBytes.{Appends}
-use Rattle.mon_types.specs.declared.script.Line.{Line}
 use Rattle.sm_ports.specs.Contents.{AppendsPart}
-use Rattle.script_read.specs.Grammar.{IsScript}
 use Rattle.script_read.specs.declared.fault.ScriptFault.{ScriptFault}
+use Rattle.rv_asm.specs.declared.fault.AsmFault.{AsmFault}
+use Rattle.sanctum.specs.declared.words.Order.{Order}
+use Rattle.sanctum.specs.declared.words.Order.TheVariants as orders
 use Rattle.sanctum.specs.declared.status.Status.{Status}
 use Rattle.sanctum.specs.declared.status.Status.TheVariants as answers
 use Rattle.sanctum.specs.Faults.{fault_line}
-use Rattle.sanctum.specs.Headline.{IsReport, HasFirstFault, IsText, IsRefusal, Ends}
+use Rattle.sanctum.specs.Headline.{IsOutput, IsScriptFault, IsAsmFault, IsGood, Says, IsMeant, IsRefusal, Ends}
 
-pub reported : (told before after : Option (List ℕ)) (result : Status) → Ends told before after result → result ≡ answers.Ok → (text : List ℕ) × IsReport told text × Appends before after text
-reported told before after result e is =
+-- what the words ask for, and the files of a depot
+abbrev Asked : Type 0
+Asked = Option (List ℕ × Order)
+
+abbrev Files : Type 0
+Files = List ℕ → Option (List ℕ)
+
+-- an answer that is no write fault is the one that was to be given, and its text was written whole
+whole : (May : Status → List ℕ → Type 0) (before after : Option (List ℕ)) (result : Status) → Ends May before after result → (result ≡ answers.WriteFault → ⊥) → (text : List ℕ) × May result text × Appends before after text
+whole May before after result e no_fault =
     elim e.printed [
-      | inl p ↦ (e.text, subst (λ (s : Status). IsText told s e.text) (sym p.0 ∙ is) e.says, p.1)
-      | inr q ↦ let h : answers.WriteFault ≡ answers.Ok = sym q.0 ∙ is in absurd cc
+      | inl p ↦ (e.text, subst (λ (s : Status). May s e.text) (sym p.0) e.may, p.1)
+      | inr q ↦ absurd (no_fault q.0)
     ]
 
-pub first_fault : (told before after : Option (List ℕ)) (result : Status) (fault : ScriptFault) → Ends told before after result → result ≡ answers.ScriptRefused fault → IfSome told (λ bytes. HasFirstFault bytes fault)
-first_fault told before after result fault e is =
+none_used : (contents : Files) (before after : Option (List ℕ)) (result : Status) → Ends (IsMeant None contents) before after result → (result ≡ answers.Usage) ⊎ (result ≡ answers.WriteFault)
+none_used contents before after result e = elim e.printed [ inl p ↦ inl (p.0 ∙ e.may.0) | inr q ↦ inr q.0 ]
+
+pub usage : (asked : Asked) (contents : Files) (before after : Option (List ℕ)) (result : Status) → Ends (IsMeant asked contents) before after result → asked ≡ None → (result ≡ answers.Usage) ⊎ (result ≡ answers.WriteFault)
+usage asked contents before after result e none = none_used contents before after result (subst (λ (a : Asked). Ends (IsMeant a contents) before after result) none e)
+
+meant_usage : (asked : Asked) (contents : Files) (text : List ℕ) → IsMeant asked contents answers.Usage text → asked ≡ None
+meant_usage None contents text m = refl
+meant_usage (Some request) contents text m = absurd m
+
+no_write_fault : (result status : Status) → result ≡ status → (status ≡ answers.WriteFault → ⊥) → result ≡ answers.WriteFault → ⊥
+no_write_fault result status is other h = other (sym is ∙ h)
+
+-- the text of an answer that is known
+written : (asked : Asked) (contents : Files) (before after : Option (List ℕ)) (result status : Status) → Ends (IsMeant asked contents) before after result → result ≡ status → (status ≡ answers.WriteFault → ⊥) → (text : List ℕ) × IsMeant asked contents status text × Appends before after text
+written asked contents before after result status e is other =
+    let w = whole (IsMeant asked contents) before after result e (no_write_fault result status is other) in
+    (w.0, subst (λ (s : Status). IsMeant asked contents s w.0) is w.1, w.2)
+
+pub usage_only : (asked : Asked) (contents : Files) (before after : Option (List ℕ)) (result : Status) → Ends (IsMeant asked contents) before after result → result ≡ answers.Usage → asked ≡ None
+usage_only asked contents before after result e is =
+    let w = written asked contents before after result answers.Usage e is (λ h. cc) in meant_usage asked contents w.0 w.1
+
+meant_output : (asked : Asked) (contents : Files) (text : List ℕ) → IsMeant asked contents answers.Ok text → IsSomeAnd asked (λ request. IsOutput request.1 (contents request.0) text)
+meant_output None contents text m = let h : answers.Ok ≡ answers.Usage = m.0 in absurd cc
+meant_output (Some request) contents text m = m
+
+pub output : (asked : Asked) (contents : Files) (before after : Option (List ℕ)) (result : Status) → Ends (IsMeant asked contents) before after result → result ≡ answers.Ok
+    → (text : List ℕ) × IsSomeAnd asked (λ request. IsOutput request.1 (contents request.0) text) × Appends before after text
+output asked contents before after result e is =
+    let w = written asked contents before after result answers.Ok e is (λ h. cc) in (w.0, meant_output asked contents w.0 w.1, w.2)
+
+meant_script : (asked : Asked) (contents : Files) (fault : ScriptFault) (text : List ℕ) → IsMeant asked contents (answers.ScriptRefused fault) text → IsSomeAnd asked (λ request. IsScriptFault request.1 (contents request.0) fault)
+meant_script None contents fault text m = let h : answers.ScriptRefused fault ≡ answers.Usage = m.0 in absurd cc
+meant_script (Some request) contents fault text m = m.1
+
+pub script_refused : (asked : Asked) (contents : Files) (before after : Option (List ℕ)) (result : Status) (fault : ScriptFault) → Ends (IsMeant asked contents) before after result → result ≡ answers.ScriptRefused fault
+    → IsSomeAnd asked (λ request. IsScriptFault request.1 (contents request.0) fault)
+script_refused asked contents before after result fault e is =
+    let w = written asked contents before after result (answers.ScriptRefused fault) e is (λ h. cc) in meant_script asked contents fault w.0 w.1
+
+meant_asm : (asked : Asked) (contents : Files) (fault : AsmFault) (text : List ℕ) → IsMeant asked contents (answers.AsmRefused fault) text → IsSomeAnd asked (λ request. IsAsmFault request.1 (contents request.0) fault)
+meant_asm None contents fault text m = let h : answers.AsmRefused fault ≡ answers.Usage = m.0 in absurd cc
+meant_asm (Some request) contents fault text m = m.1
+
+pub asm_refused : (asked : Asked) (contents : Files) (before after : Option (List ℕ)) (result : Status) (fault : AsmFault) → Ends (IsMeant asked contents) before after result → result ≡ answers.AsmRefused fault
+    → IsSomeAnd asked (λ request. IsAsmFault request.1 (contents request.0) fault)
+asm_refused asked contents before after result fault e is =
+    let w = written asked contents before after result (answers.AsmRefused fault) e is (λ h. cc) in meant_asm asked contents fault w.0 w.1
+
+refusal_text : (order : Order) (told : Option (List ℕ)) (status : Status) (text : List ℕ) → IsRefusal status → Says order told status text → text ≡ fault_line status
+refusal_text order told answers.Ok text r t = absurd r
+refusal_text order told answers.Usage text r t = absurd t
+refusal_text order told (answers.ScriptRefused fault) text r t = t.0
+refusal_text order told answers.ReadFault text r t = t
+refusal_text order told answers.WriteFault text r t = absurd r
+refusal_text order told answers.OutOfMemory text r t = t
+refusal_text order told (answers.AsmRefused fault) text r t = t.0
+
+meant_text : (asked : Asked) (contents : Files) (status : Status) (text : List ℕ) → IsRefusal status → IsMeant asked contents status text → text ≡ fault_line status
+meant_text None contents status text r m = m.1 ∙ ap fault_line (sym m.0)
+meant_text (Some request) contents status text r m = refusal_text request.1 (contents request.0) status text r m
+
+pub one_line : (asked : Asked) (contents : Files) (before after : Option (List ℕ)) (result : Status) → Ends (IsMeant asked contents) before after result → IsRefusal result → Appends before after (fault_line result)
+one_line asked contents before after result e r =
+    let w = whole (IsMeant asked contents) before after result e (λ h. subst IsRefusal h r) in
+    subst (λ (text : List ℕ). Appends before after text) (meant_text asked contents result w.0 r w.1) w.2
+
+meant_nothing : (asked : Asked) (contents : Files) (text : List ℕ) → IsMeant asked contents answers.WriteFault text → ⊥
+meant_nothing None contents text m = let h : answers.WriteFault ≡ answers.Usage = m.0 in cc
+meant_nothing (Some request) contents text m = m
+
+pub front : (asked : Asked) (contents : Files) (before after : Option (List ℕ)) (result : Status) → Ends (IsMeant asked contents) before after result → result ≡ answers.WriteFault
+    → (intended : Status) × (text : List ℕ) × IsMeant asked contents intended text × AppendsPart before after text
+front asked contents before after result e is =
     elim e.printed [
-      | inl p ↦ (subst (λ (s : Status). IsText told s e.text) (sym p.0 ∙ is) e.says).1
-      | inr q ↦ let h : answers.WriteFault ≡ answers.ScriptRefused fault = sym q.0 ∙ is in absurd cc
+      | inl p ↦ absurd (meant_nothing asked contents e.text (subst (λ (s : Status). IsMeant asked contents s e.text) (sym p.0 ∙ is) e.may))
+      | inr q ↦ (e.intended, e.text, e.may, q.1)
     ]
 
-refusal_text : (told : Option (List ℕ)) (status : Status) (text : List ℕ) → IsRefusal status → IsText told status text → text ≡ fault_line status
-refusal_text told answers.Ok text r t = absurd r
-refusal_text told answers.Usage text r t = t
-refusal_text told (answers.ScriptRefused fault) text r t = t.0
-refusal_text told answers.ReadFault text r t = t
-refusal_text told answers.WriteFault text r t = absurd r
-refusal_text told answers.OutOfMemory text r t = t
+-- a file that a command reads has no fault
+no_script_fault : (order : Order) (bytes : List ℕ) (fault : ScriptFault) → IsScriptFault order (Some bytes) fault → IsGood order bytes → ⊥
+no_script_fault orders.Script bytes fault first good = first.outside good.0 good.1
+no_script_fault (orders.Pack shape) bytes fault first good = first
 
-pub one_line : (told before after : Option (List ℕ)) (result : Status) → Ends told before after result → IsRefusal result → Appends before after (fault_line result)
-one_line told before after result e r =
-    elim e.printed [
-      | inl p ↦ subst (λ (text : List ℕ). Appends before after text) (refusal_text told result e.text r (subst (λ (s : Status). IsText told s e.text) (sym p.0) e.says)) p.1
-      | inr q ↦ absurd (subst IsRefusal q.0 r)
-    ]
+no_asm_fault : (order : Order) (bytes : List ℕ) (fault : AsmFault) → IsAsmFault order (Some bytes) fault → IsGood order bytes → ⊥
+no_asm_fault orders.Script bytes fault first good = first
+no_asm_fault (orders.Pack shape) bytes fault first good = first.outside good.0 good.1
 
-pub front : (told before after : Option (List ℕ)) (result : Status) → Ends told before after result → result ≡ answers.WriteFault → (intended : Status) × (text : List ℕ) × IsText told intended text × AppendsPart before after text
-front told before after result e is =
-    elim e.printed [
-      | inl p ↦ absurd (subst (λ (s : Status). IsText told s e.text) (sym p.0 ∙ is) e.says)
-      | inr q ↦ (e.intended, e.text, e.says, q.1)
-    ]
+-- what may be answered of a good file
+good : (order : Order) (told : Option (List ℕ)) (status : Status) (text bytes : List ℕ) → Says order told status text → told ≡ Some bytes → IsGood order bytes → (status ≡ answers.ReadFault → ⊥) → (status ≡ answers.Ok) ⊎ (status ≡ answers.OutOfMemory)
+good order told answers.Ok text bytes t is g r = inl refl
+good order told answers.Usage text bytes t is g r = absurd t
+good order told (answers.ScriptRefused fault) text bytes t is g r = absurd (no_script_fault order bytes fault (subst (λ (o : Option (List ℕ)). IsScriptFault order o fault) is t.1) g)
+good order told answers.ReadFault text bytes t is g r = absurd (r refl)
+good order told answers.WriteFault text bytes t is g r = absurd t
+good order told answers.OutOfMemory text bytes t is g r = inr refl
+good order told (answers.AsmRefused fault) text bytes t is g r = absurd (no_asm_fault order bytes fault (subst (λ (o : Option (List ℕ)). IsAsmFault order o fault) is t.1) g)
 
--- what may be answered of a script in the grammar
-good : (told : Option (List ℕ)) (status : Status) (text bytes : List ℕ) (script : List (List Line)) → IsText told status text → told ≡ Some bytes → IsScript None bytes script
-    → (status ≡ answers.Usage → ⊥) → (status ≡ answers.ReadFault → ⊥) → (status ≡ answers.Ok) ⊎ (status ≡ answers.OutOfMemory)
-good told answers.Ok text bytes script t is g u r = inl refl
-good told answers.Usage text bytes script t is g u r = absurd (u refl)
-good told (answers.ScriptRefused fault) text bytes script t is g u r =
-    let first : HasFirstFault bytes fault = subst (λ (o : Option (List ℕ)). IfSome o (λ bs. HasFirstFault bs fault)) is t.1 in absurd (first.outside script g)
-good told answers.ReadFault text bytes script t is g u r = absurd (r refl)
-good told answers.WriteFault text bytes script t is g u r = absurd t
-good told answers.OutOfMemory text bytes script t is g u r = inr refl
-
-pub completes : (told before after : Option (List ℕ)) (result : Status) (bytes : List ℕ) (script : List (List Line)) → Ends told before after result → told ≡ Some bytes → IsScript None bytes script
-    → (result ≡ answers.Usage → ⊥) → (result ≡ answers.ReadFault → ⊥) → (result ≡ answers.WriteFault → ⊥) → (result ≡ answers.Ok) ⊎ (result ≡ answers.OutOfMemory)
-completes told before after result bytes script e is g u r w =
-    elim e.printed [
-      | inl p ↦ good told result e.text bytes script (subst (λ (s : Status). IsText told s e.text) (sym p.0) e.says) is g u r
-      | inr q ↦ absurd (w q.0)
-    ]
-
--- the same, from when each answer comes
-pub complete : (contents : List ℕ → Option (List ℕ)) (before after named : Option (List ℕ)) (result : Status) (name bytes : List ℕ) (script : List (List Line)) (Read : List ℕ → Type 0) (Write : Type 0)
-    → Ends (option_and_then contents named) before after result → (result ≡ answers.Usage → named ≡ None) → (result ≡ answers.ReadFault → IsSomeAnd named Read) → (result ≡ answers.WriteFault → Write)
-    → named ≡ Some name → contents name ≡ Some bytes → IsScript None bytes script → (Read name → ⊥) → (Write → ⊥) → (result ≡ answers.Ok) ⊎ (result ≡ answers.OutOfMemory)
-complete contents before after named result name bytes script Read Write e usage read write is told g no_read no_write =
-    completes (option_and_then contents named) before after result bytes script e (ap (option_and_then contents) is ∙ told) g
-    (λ h. let n : Some name ≡ None = sym is ∙ usage h in cc)
-    (λ h. no_read (subst (λ (o : Option (List ℕ)). IsSomeAnd o Read) is (read h)))
-    (λ h. no_write (write h))
+pub complete : (asked : Asked) (contents : Files) (before after : Option (List ℕ)) (result : Status) (Read : List ℕ → Type 0) (Write : Type 0)
+    → Ends (IsMeant asked contents) before after result → (result ≡ answers.ReadFault → IsSomeAnd asked (λ request. Read request.0)) → (result ≡ answers.WriteFault → Write)
+    → (name bytes : List ℕ) (order : Order) → asked ≡ Some (name, order) → contents name ≡ Some bytes → IsGood order bytes → (Read name → ⊥) → (Write → ⊥) → (result ≡ answers.Ok) ⊎ (result ≡ answers.OutOfMemory)
+complete asked contents before after result Read Write e read write name bytes order is told g no_read no_write =
+    let w = whole (IsMeant asked contents) before after result e (λ h. no_write (write h)) in
+    good order (contents name) result w.0 bytes (subst (λ (a : Asked). IsMeant a contents result w.0) is w.1) told g
+    (λ h. no_read (subst (λ (a : Asked). IsSomeAnd a (λ request. Read request.0)) is (read h)))

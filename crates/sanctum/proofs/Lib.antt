@@ -1,2 +1,5 @@
 pub mod Ends
 pub mod Answered
+pub mod Packed
+pub mod Pairs
+pub mod PackedImage

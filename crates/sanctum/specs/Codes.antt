@@ -10,3 +10,4 @@ status_code (answers.ScriptRefused fault) = 4
 status_code answers.ReadFault = 5
 status_code answers.WriteFault = 6
 status_code answers.OutOfMemory = 7
+status_code (answers.AsmRefused fault) = 9

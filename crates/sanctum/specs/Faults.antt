@@ -5,6 +5,9 @@ use Rattle.script_read.specs.declared.fault.LineKind.{LineKind}
 use Rattle.script_read.specs.declared.fault.LineKind.TheVariants as kinds
 use Rattle.script_read.specs.declared.fault.ScriptFault.{ScriptFault}
 use Rattle.script_read.specs.declared.fault.ScriptFault.TheVariants as faults
+use Rattle.rv_asm.specs.declared.fault.AsmKind.{AsmKind}
+use Rattle.rv_asm.specs.declared.fault.AsmKind.TheVariants as asm_kinds
+use Rattle.rv_asm.specs.declared.fault.AsmFault.{AsmFault}
 use Rattle.sanctum.specs.declared.status.Status.{Status}
 use Rattle.sanctum.specs.declared.status.Status.TheVariants as answers
 
@@ -31,6 +34,21 @@ script_fault_line (faults.BadLine line kind) = script_line_text line (kind_text 
 script_fault_line (faults.TurnsOver line) = script_line_text line turns_over_text
 script_fault_line (faults.NotBuilt line) = script_line_text line not_built_text
 
+unfoldable pub asm_kind_text : AsmKind → List ℕ
+asm_kind_text asm_kinds.UnknownWord = codes " unknown word\n"
+asm_kind_text asm_kinds.BadOperand = codes " bad operand\n"
+asm_kind_text asm_kinds.OutOfRange = codes " out of range\n"
+asm_kind_text asm_kinds.UnknownLabel = codes " unknown label\n"
+asm_kind_text asm_kinds.DoubleLabel = codes " double label\n"
+asm_kind_text asm_kinds.TooLong = codes " too long\n"
+
+-- the line of the assembler text, counted from 1, and what is wrong with it
+unfoldable pub asm_line_text : ℕ → List ℕ → List ℕ
+asm_line_text line kind = codes "refused: asm line " ++ decimal line ++ kind
+
+abbrev pub asm_fault_line : AsmFault → List ℕ
+asm_fault_line fault = asm_line_text fault.line (asm_kind_text fault.kind)
+
 -- there is none for Ok and for a write fault
 unfoldable pub fault_line : Status → List ℕ
 fault_line answers.Ok = []
@@ -39,3 +57,4 @@ fault_line (answers.ScriptRefused fault) = script_fault_line fault
 fault_line answers.ReadFault = codes "refused: read fault\n"
 fault_line answers.WriteFault = []
 fault_line answers.OutOfMemory = codes "refused: out of memory\n"
+fault_line (answers.AsmRefused fault) = asm_fault_line fault

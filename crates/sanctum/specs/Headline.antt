@@ -1,19 +1,29 @@
 -- What each answer of the program says. This project's own.
-use Rattle.std.specs.Prelude.{◌≡◌, ℕ, List, [], ◌∷◌, Option, None, Err, IfSome, ◌⊎◌, ⊤}
+use Rattle.std.specs.Prelude.{◌≡◌, ℕ, List, [], ◌∷◌, Option, Some, None, Err, IfSome, ◌⊎◌, ⊤}
 use Rattle.std.specs.Io.KnownBytes.{Appends}
+use Rattle.mon_types.specs.Shape.{Shape}
 use Rattle.mon_types.specs.declared.script.Line.{Line}
 use Rattle.hist.specs.declared.finished.Finished.{Finished}
 use Rattle.sm_ports.specs.Contents.{AppendsPart}
 use Rattle.script_read.specs.Grammar.{IsScript}
 use Rattle.script_read.specs.Reading.{script_of}
 use Rattle.script_read.specs.declared.fault.ScriptFault.{ScriptFault}
+use Rattle.rv_asm.specs.Grammar.{IsText}
+use Rattle.rv_asm.specs.Reading.{statements_of}
+use Rattle.rv_asm.specs.declared.fault.AsmFault.{AsmFault}
+use Rattle.image_read.specs.Image.{image_text}
 use Rattle.report.specs.Report.{report_text}
 use Rattle.solo.specs.Follows.{IsRunOf}
+use Rattle.sanctum.specs.declared.words.Order.{Order}
+use Rattle.sanctum.specs.declared.words.Order.TheVariants as orders
 use Rattle.sanctum.specs.declared.status.Status.{Status}
 use Rattle.sanctum.specs.declared.status.Status.TheVariants as answers
+use Rattle.sanctum.specs.Packing.{word_limit, packed_image, version_for}
 use Rattle.sanctum.specs.Faults.{fault_line}
 
--- The bytes of the file that the words name, where the depot tells them, are those of this script.
+-- ---- script SCRIPT
+
+-- The bytes of the file, where the depot tells them, are those of this script.
 abbrev pub AreScript : Option (List ℕ) → List Line → Type 0
 AreScript told script = IfSome told (λ bytes. IsScript None bytes (script ∷ []))
 
@@ -27,19 +37,61 @@ pub record IsReport (told : Option (List ℕ)) (text : List ℕ) : Type 0 where
   pub run : IsRunOf script finished
   pub report : text ≡ report_text finished
 
--- The bytes are outside the grammar or pass its limit, and this is their first fault.
+-- The bytes are outside the grammar of scripts or pass its limit, and this is their first fault.
 pub record HasFirstFault (bytes : List ℕ) (fault : ScriptFault) : Type 0 where
   pub first : script_of None bytes ≡ Err fault
   pub outside : (script : List (List Line)) → IsScript None bytes script → ⊥
 
--- What is to be written for an answer: the report for Ok, one fault line for a refusal.
-abbrev pub IsText : Option (List ℕ) → Status → List ℕ → Type 0
-IsText told answers.Ok text = IsReport told text
-IsText told answers.Usage text = text ≡ fault_line answers.Usage
-IsText told (answers.ScriptRefused fault) text = (text ≡ fault_line (answers.ScriptRefused fault)) × IfSome told (λ bytes. HasFirstFault bytes fault)
-IsText told answers.ReadFault text = text ≡ fault_line answers.ReadFault
-IsText told answers.WriteFault text = ⊥
-IsText told answers.OutOfMemory text = text ≡ fault_line answers.OutOfMemory
+-- ---- pack ASM CORES REGIONS PAGES SHIFT
+
+-- The text is that of the image of a machine of this size with the words that the assembler text has,
+-- in version 1 up to 8 cores and in version 2 above.
+pub record IsPacked (shape : Shape) (told : Option (List ℕ)) (text : List ℕ) : Type 0 where
+  pub words : List ℕ
+  pub read : IfSome told (λ bytes. IsText (word_limit shape) bytes words)
+  pub packed : text ≡ image_text (version_for shape) (packed_image shape words)
+
+-- The bytes are outside the grammar of assembler texts or pass a limit, and this is their first fault.
+pub record HasFirstAsmFault (limit : ℕ) (bytes : List ℕ) (fault : AsmFault) : Type 0 where
+  pub first : statements_of limit bytes ≡ Err fault
+  pub outside : (words : List ℕ) → IsText limit bytes words → ⊥
+
+-- ---- all commands
+
+-- What a command writes with Ok, by what the depot tells of the file's bytes.
+abbrev pub IsOutput : Order → Option (List ℕ) → List ℕ → Type 0
+IsOutput orders.Script told text = IsReport told text
+IsOutput (orders.Pack shape) told text = IsPacked shape told text
+
+-- The command reads a script, and this is its first fault.
+abbrev pub IsScriptFault : Order → Option (List ℕ) → ScriptFault → Type 0
+IsScriptFault orders.Script told fault = IfSome told (λ bytes. HasFirstFault bytes fault)
+IsScriptFault (orders.Pack shape) told fault = ⊥
+
+-- The command reads an assembler text, and this is its first fault.
+abbrev pub IsAsmFault : Order → Option (List ℕ) → AsmFault → Type 0
+IsAsmFault orders.Script told fault = ⊥
+IsAsmFault (orders.Pack shape) told fault = IfSome told (λ bytes. HasFirstAsmFault (word_limit shape) bytes fault)
+
+-- The bytes are what the command reads.
+abbrev pub IsGood : Order → List ℕ → Type 0
+IsGood orders.Script bytes = (script : List (List Line)) × IsScript None bytes script
+IsGood (orders.Pack shape) bytes = (words : List ℕ) × IsText (word_limit shape) bytes words
+
+-- What is to be written for an answer: the command's output for Ok, one fault line for a refusal.
+abbrev pub Says : Order → Option (List ℕ) → Status → List ℕ → Type 0
+Says order told answers.Ok text = IsOutput order told text
+Says order told answers.Usage text = ⊥
+Says order told (answers.ScriptRefused fault) text = (text ≡ fault_line (answers.ScriptRefused fault)) × IsScriptFault order told fault
+Says order told answers.ReadFault text = text ≡ fault_line answers.ReadFault
+Says order told answers.WriteFault text = ⊥
+Says order told answers.OutOfMemory text = text ≡ fault_line answers.OutOfMemory
+Says order told (answers.AsmRefused fault) text = (text ≡ fault_line (answers.AsmRefused fault)) × IsAsmFault order told fault
+
+-- The same by what the words ask for, over the files of a depot; words that ask for nothing give Usage.
+abbrev pub IsMeant : Option (List ℕ × Order) → (List ℕ → Option (List ℕ)) → Status → List ℕ → Type 0
+IsMeant None contents status text = (status ≡ answers.Usage) × (text ≡ fault_line answers.Usage)
+IsMeant (Some request) contents status text = Says request.1 (contents request.0) status text
 
 -- the answers that print one fault line
 abbrev pub IsRefusal : Status → Type 0
@@ -49,16 +101,18 @@ IsRefusal (answers.ScriptRefused fault) = ⊤
 IsRefusal answers.ReadFault = ⊤
 IsRefusal answers.WriteFault = ⊥
 IsRefusal answers.OutOfMemory = ⊤
+IsRefusal (answers.AsmRefused fault) = ⊤
 
 -- The text was written whole, with the intended answer, or a proper front of it, with WriteFault.
 abbrev pub Prints : Option (List ℕ) → Option (List ℕ) → List ℕ → Status → Status → Type 0
 Prints before after text intended result = ((result ≡ intended) × Appends before after text) ⊎ ((result ≡ answers.WriteFault) × AppendsPart before after text)
 
--- What the program set out to answer, the text that was to be written for it, and what came of it.
-pub record Ends (told before after : Option (List ℕ)) (result : Status) : Type 0 where
+-- What was to be answered, the text that was to be written for it, which is one that may be, and what
+-- came of it.
+pub record Ends (May : Status → List ℕ → Type 0) (before after : Option (List ℕ)) (result : Status) : Type 0 where
   pub intended : Status
   pub text : List ℕ
-  pub says : IsText told intended text
+  pub may : May intended text
   pub printed : Prints before after text intended result
 
 -- what is to be written for a script that was read
@@ -69,10 +123,14 @@ IsRunText script (answers.ScriptRefused fault) text = ⊥
 IsRunText script answers.ReadFault text = ⊥
 IsRunText script answers.WriteFault text = ⊥
 IsRunText script answers.OutOfMemory text = text ≡ fault_line answers.OutOfMemory
+IsRunText script (answers.AsmRefused fault) text = ⊥
 
--- The same of a script that was read: its report is printed, or the one line for want of memory.
-pub record EndsRun (script : List Line) (before after : Option (List ℕ)) (result : Status) : Type 0 where
-  pub intended : Status
-  pub text : List ℕ
-  pub says : IsRunText script intended text
-  pub printed : Prints before after text intended result
+-- what is to be written for words that were assembled
+abbrev pub IsPackText : Shape → List ℕ → Status → List ℕ → Type 0
+IsPackText shape words answers.Ok text = text ≡ image_text (version_for shape) (packed_image shape words)
+IsPackText shape words answers.Usage text = ⊥
+IsPackText shape words (answers.ScriptRefused fault) text = ⊥
+IsPackText shape words answers.ReadFault text = ⊥
+IsPackText shape words answers.WriteFault text = ⊥
+IsPackText shape words answers.OutOfMemory text = text ≡ fault_line answers.OutOfMemory
+IsPackText shape words (answers.AsmRefused fault) text = ⊥

@@ -1,11 +1,15 @@
-//! The fault lines.
+//! The fault lines, and refusals.
 
 ghost use Rattle.std.specs.Prelude.{◌≡◌, ◌≤◌, ◌+◌, ◌++◌, length};
-ghost use Rattle.sanctum.specs.Faults.{kind_text, script_line_text, turns_over_text, not_built_text, script_fault_line, fault_line};
+ghost use Rattle.sm_ports.specs.Causes.{Rose};
+ghost use Rattle.sanctum.specs.Headline.{IsRefusal, Prints};
+ghost use Rattle.sanctum.specs.Faults.{kind_text, script_line_text, turns_over_text, not_built_text, script_fault_line, asm_kind_text, asm_line_text, asm_fault_line, fault_line};
 
 use crate::status::Status;
 use report::Line;
+use rv_asm::{AsmFault, AsmKind};
 use script_read::{LineKind, ScriptFault};
+use sm_ports::{Sink, put_all};
 
 /// A line with this text.
 fn line_with(text: &str) -> Line
@@ -72,6 +76,40 @@ fn line_of_script_fault(fault: &ScriptFault) -> Line
     }
 }
 
+/// What is wrong with a line of an assembler text.
+#[tactic(auto, unfolding(crate::specs::Faults::asm_kind_text))]
+fn asm_kind_name(kind: AsmKind) -> &'static str
+    ensures text { result.now ≡ asm_kind_text kind }
+    ensures short { length result.now ≤ 20 }
+{
+    match kind {
+        AsmKind::UnknownWord => " unknown word\n",
+        AsmKind::BadOperand => " bad operand\n",
+        AsmKind::OutOfRange => " out of range\n",
+        AsmKind::UnknownLabel => " unknown label\n",
+        AsmKind::DoubleLabel => " double label\n",
+        AsmKind::TooLong => " too long\n",
+    }
+}
+
+#[tactic(auto, unfolding(crate::specs::Faults::asm_line_text))]
+fn line_of_asm(number: u32, kind: &str) -> Line
+    requires { length kind.now ≤ 20 }
+    ensures { result ≡ asm_line_text number kind.now }
+{
+    let mut line = Line::new();
+    line.text("refused: asm line ");
+    line.number(u64::from(number));
+    line.text(kind);
+    line
+}
+
+fn line_of_asm_fault(fault: &AsmFault) -> Line
+    ensures { result ≡ asm_fault_line fault.now }
+{
+    line_of_asm(fault.line, asm_kind_name(fault.kind))
+}
+
 /// The line that is printed for an answer; there is none for Ok and for a write fault.
 #[tactic(auto, unfolding(crate::specs::Faults::fault_line))]
 pub fn line_of(status: &Status) -> Line
@@ -83,5 +121,18 @@ pub fn line_of(status: &Status) -> Line
         Status::ScriptRefused(fault) => line_of_script_fault(fault),
         Status::ReadFault => line_with("refused: read fault\n"),
         Status::OutOfMemory => line_with("refused: out of memory\n"),
+        Status::AsmRefused(fault) => line_of_asm_fault(fault),
+    }
+}
+
+/// Prints the fault line of an answer.
+pub fn refuse<K: Sink>(out: &mut K, status: Status) -> Status
+    requires { IsRefusal status }
+    ensures prints { Prints (K.taken out.old) (K.taken out.new) (fault_line status) status result }
+    ensures write_fault { result ≡ Status.WriteFault → Rose (K.faults out.old) (K.faults out.new) }
+{
+    match put_all(out, line_of(&status).as_slice()) {
+        Ok(()) => status,
+        Err(_) => Status::WriteFault,
     }
 }

@@ -1,21 +1,26 @@
-//! The program: runs a script on the machine and prints what happened as one legal history.
+//! The program: runs scripts on the machine and prints what happened as one legal history, and makes
+//! images from assembler texts.
 #![tactic(auto)]
 
 ghost use Rattle.sanctum.specs.Headline.{IsRefusal};
 
 mod faults;
+mod image;
+mod pack;
 mod plain;
+mod run;
 mod status;
 mod top;
 mod words;
 
+use faults::refuse;
 use sm_ports::{FileDepot, OpenGate, StdSink};
 use status::Status;
 use std::alloc::Global;
 use std::process::ExitCode;
 use std::rt::Env;
 use std::{env, io};
-use top::{refuse, sanctum};
+use top::sanctum;
 
 fn main(rt: HostRuntime) -> ExitCode {
     let mut depot = FileDepot::new(&rt);

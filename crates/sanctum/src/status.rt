@@ -3,12 +3,13 @@
 ghost use Rattle.std.specs.Prelude.{◌≡◌};
 ghost use Rattle.sanctum.specs.Codes.{status_code};
 
+use rv_asm::AsmFault;
 use script_read::ScriptFault;
 
 /// How the program ends.
 #[derive(Debug, Drop)]
 pub enum Status {
-    /// The report was written whole.
+    /// The command's output was written whole.
     Ok,
     /// The words are no line of the table of commands.
     Usage,
@@ -20,6 +21,8 @@ pub enum Status {
     WriteFault,
     /// There was no memory.
     OutOfMemory,
+    /// The assembler text's bytes are outside its grammar or pass a limit; the first fault.
+    AsmRefused(AsmFault),
 }
 
 impl Status {
@@ -34,6 +37,7 @@ impl Status {
             Status::ReadFault => 5,
             Status::WriteFault => 6,
             Status::OutOfMemory => 7,
+            Status::AsmRefused(_) => 9,
         }
     }
 }

@@ -160,6 +160,62 @@ fn rows_with_a_refusal(rt: HostRuntime) -> Result<(), Fail> {
             "refused: script line 1 not built\n",
         ),
         (
+            "pack-three",
+            &["pack", "S", "1", "8", "1", "0"],
+            b"addi x17, x0, 4\necal\nebreak",
+            9,
+            "refused: asm line 2 unknown word\n",
+        ),
+        (
+            "double-label",
+            &["pack", "S", "1", "8", "1", "0"],
+            b"a: beq x0, x0, a\na: ecall",
+            9,
+            "refused: asm line 2 double label\n",
+        ),
+        (
+            "an assembler text over its limit",
+            &["pack", "S", "1", "8", "1", "0"],
+            &too_long,
+            9,
+            "refused: asm line 0 too long\n",
+        ),
+        (
+            "more words than two pages hold",
+            &["pack", "S", "1", "2", "1", "0"],
+            b".at 8192\necall",
+            9,
+            "refused: asm line 2 too long\n",
+        ),
+        (
+            "17 cores",
+            &["pack", "S", "17", "8", "1", "0"],
+            b"",
+            2,
+            "refused: usage\n",
+        ),
+        (
+            "a leading zero",
+            &["pack", "S", "01", "8", "1", "0"],
+            b"",
+            2,
+            "refused: usage\n",
+        ),
+        (
+            "no shift",
+            &["pack", "S", "1", "8", "1"],
+            b"",
+            2,
+            "refused: usage\n",
+        ),
+        (
+            "missing-file",
+            &["pack", "X", "1", "8", "1", "0"],
+            b"",
+            5,
+            "refused: read fault\n",
+        ),
+        (
             "missing-file",
             &["script", "X"],
             b"",
@@ -177,6 +233,42 @@ fn rows_with_a_refusal(rt: HostRuntime) -> Result<(), Fail> {
         let (status, out) = run(&rt, alloc, words, file, &[])?;
         assert_eq!(rt; status.code(), code, "{name}");
         assert_eq!(rt; out.as_slice(), want.as_bytes(), "{name}");
+    }
+    Ok(())
+}
+
+/// Row `pack-three`, nine cores in version 2, and a text without words. The expected bytes are put
+/// together by hand; the digest is that of another program.
+#[test]
+fn rows_with_an_image(rt: HostRuntime) -> Result<(), Fail> {
+    let alloc = rt.alloc();
+    for (name, words, file, want) in [
+        (
+            "pack-three",
+            ["pack", "S", "1", "8", "1", "0"],
+            "addi x17, x0, 4\necall\nebreak",
+            "53414e4354554d010103000001000000000000800000000000000000000000000000008000000000100000000000000093084000730000007300100000000000",
+        ),
+        (
+            "nine cores",
+            ["pack", "S", "9", "2", "2", "1"],
+            "ecall # one\nebreak\n",
+            "53414e4354554d020901010101000000000000800000000000000000000000000000008000000000000000000000000000000080000000000000000000000000000000800000000000000000000000000000008000000000000000000000000000000080000000000000000000000000000000800000000000000000000000000000008000000000000000000000000000000080000000000000000000000000000000800000000008000000000000007300000073001000fd2e11867cd73c29d2fce60e8331e33a244cf1ca03d3c4d92fdd563dcb345f73",
+        ),
+        (
+            "no words",
+            ["pack", "S", "8", "64", "16", "4"],
+            "# nothing",
+            "53414e4354554d0108060404000000000000008000000000000000000000000000000080000000000000000000000000000000800000000000000000000000000000008000000000000000000000000000000080000000000000000000000000000000800000000000000000000000000000008000000000000000000000000000000080000000000000000000000000",
+        ),
+    ] {
+        let (status, out) = run(&rt, alloc, &words, file.as_bytes(), &[])?;
+        assert_eq!(rt; status.code(), 0, "{name}");
+        assert_eq!(rt;
+            hex::encode(alloc, out.as_slice())?.as_str(),
+            want,
+            "{name}"
+        );
     }
     Ok(())
 }

@@ -1,10 +1,28 @@
 //! The words of the command line.
 
-ghost use Rattle.std.specs.Prelude.{◌≡◌, List, ℕ};
-ghost use Rattle.std.specs.Option.{option_map};
+ghost use Rattle.std.specs.Prelude.{◌≡◌, ◌<◌, List, ℕ, IfSome};
+ghost use Rattle.std.specs.Option.{option_map, option_and_then};
 ghost use Rattle.std.specs.Str.{bytes_eq};
-ghost use Rattle.std.specs.Borrow.{Bor};
-ghost use Rattle.sanctum.specs.Words.{script_word, script_name};
+ghost use Rattle.sanctum.specs.Words.{script_word, pack_word, digit_of, two_digits, number_of, size_of, size_of_words, request_of};
+
+use mon_types::Config;
+
+/// What is asked of a file.
+#[derive(Clone, Copy, Debug, PartialEq, Eq)]
+pub enum Order {
+    /// To run it as a script and print the report.
+    Script,
+    /// To assemble it and write the image of a machine of this size.
+    Pack(Config),
+}
+
+/// What the words ask for.
+#[derive(Clone, Copy, Debug)]
+pub struct Request<'a> {
+    /// The name of the file that is read.
+    pub file: &'a str,
+    pub order: Order,
+}
 
 #[tactic(auto, unfolding(crate::specs::Words::script_word))]
 fn is_script(word: &str) -> bool
@@ -13,12 +31,75 @@ fn is_script(word: &str) -> bool
     word == "script"
 }
 
-/// The file that the words name, where they are `script SCRIPT`.
-pub fn script_of_words(words: &[String]) -> Option<&str>
-    ensures { option_map (λ (name : Bor (List ℕ)). name.now) result ≡ script_name words.now }
+#[tactic(auto, unfolding(crate::specs::Words::pack_word))]
+fn is_pack(word: &str) -> bool
+    ensures { result ≡ bytes_eq word.now pack_word }
+{
+    word == "pack"
+}
+
+fn digit(byte: u8) -> Option<u8>
+    ensures { result ≡ digit_of byte }
+{
+    match byte {
+        b'0'..=b'9' => Some(byte - b'0'),
+        _ => None,
+    }
+}
+
+fn two_digits(a: u8, b: u8) -> Option<u8>
+    ensures { result ≡ two_digits a b }
+{
+    match (a, b) {
+        (b'1'..=b'9', b'0'..=b'9') => Some((a - b'0') * 10 + (b - b'0')),
+        _ => None,
+    }
+}
+
+/// The number below 100 that a word is: decimal digits without a sign or a leading zero. No number of
+/// the commands is larger.
+fn number_of_word(word: &str) -> Option<u8>
+    ensures { result ≡ number_of word.now }
+{
+    match word.as_bytes() {
+        [a] => digit(*a),
+        [a, b] => two_digits(*a, *b),
+        _ => None,
+    }
+}
+
+/// The size of a machine that four words say, where it is within the limits.
+fn size_of_words(cores: &str, regions: &str, pages: &str, shift: &str) -> Option<Config>
+    ensures { result ≡ size_of_words cores.now regions.now pages.now shift.now }
+{
+    let cores = number_of_word(cores)?;
+    let regions = number_of_word(regions)?;
+    let pages = number_of_word(pages)?;
+    let shift = number_of_word(shift)?;
+    Config::new(cores, regions, pages, shift)
+}
+
+/// What the words ask for; None where they are no line of the table of commands.
+pub fn request_of_words(words: &[String]) -> Option<Request<'_>>
+    ensures { option_map (λ r. (r.file.now, r.order)) result ≡ request_of words.now }
 {
     match words {
-        [word, name] if is_script(word.as_str()) => Some(name.as_str()),
+        [word, file] if is_script(word.as_str()) => Some(Request {
+            file: file.as_str(),
+            order: Order::Script,
+        }),
+        [word, file, cores, regions, pages, shift] if is_pack(word.as_str()) => {
+            let size = size_of_words(
+                cores.as_str(),
+                regions.as_str(),
+                pages.as_str(),
+                shift.as_str(),
+            )?;
+            Some(Request {
+                file: file.as_str(),
+                order: Order::Pack(size),
+            })
+        }
         _ => None,
     }
 }

@@ -1,5 +1,5 @@
 use Rattle.sanctum.proofs.Answered.{fault_ends}
-use Rattle.sanctum.proofs.top.run_script.Goals as goal
+use Rattle.sanctum.proofs.run.run_script.Goals as goal
 
 pub returns-in-Err-Fault-clause-ends : goal.returns-in-Err-Fault-clause-ends
 returns-in-Err-Fault-clause-ends g c =
