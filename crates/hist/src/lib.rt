@@ -5,7 +5,13 @@
 mod event;
 mod finished;
 mod log;
+mod merge;
+mod period;
+#[cfg(test)]
+mod tests;
 
 pub use event::{Entry, Event, PageInput, Why};
 pub use finished::Finished;
 pub use log::Log;
+pub use merge::Merge;
+pub use period::{Period, period_of};

@@ -1,0 +1,6 @@
+pub mod Ordered
+pub mod Left
+pub mod Begun
+pub mod Walked
+pub mod Ascending
+pub mod Periods

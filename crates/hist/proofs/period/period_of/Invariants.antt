@@ -1,0 +1,6 @@
+use Rattle.hist.specs.History.{history}
+use Rattle.hist.proofs.Walked.{Walked}
+use Rattle.hist.proofs.period.period_of.Given as goal
+
+abbrev pub invariant-loop-entry : goal.invariant-loop-entry
+invariant-loop-entry l = Walked (history l.logs) l.entry-iterator l.region l.since l.initialized l.period

@@ -1,0 +1,159 @@
+-- Periods of ownership, read off a history, and what a touch of one must keep. This project's own.
+use Rattle.std.specs.Prelude.{◌≡◌, ℕ, ◌^◌, ◌<◌, ◌⊎◌, ⊤, Bool, true, false, ◌==◌, ◌&&◌, nat_lt, if◌then◌else◌, IsTrue, List, ◌∷◌, ◌++◌, filter, find, fold, Any, Option, Some, None, unwrap_or, option_and_then, IfSome, IsSomeAnd}
+use Rattle.std.specs.Option.{option_map}
+use Rattle.std.specs.List.{range_with_len, AllByRecursion}
+use Rattle.mon_types.specs.declared.region.Owner.{Owner}
+use Rattle.mon_types.specs.declared.region.Owner.TheVariants as owners
+use Rattle.mon_types.specs.declared.thread.Mode.{Mode}
+use Rattle.mon_types.specs.declared.thread.Mode.TheVariants as modes
+use Rattle.mon_types.specs.declared.call.Call.{Call}
+use Rattle.mon_types.specs.declared.call.Call.TheVariants as calls
+use Rattle.mon_types.specs.declared.object.Tried.{Tried}
+use Rattle.mon_model.specs.Bits.{has_bit}
+use Rattle.mon_model.specs.Early.{os_word}
+use Rattle.mon_model.specs.Replies.{is_done}
+use Rattle.hist.specs.declared.event.Entry.{Entry}
+use Rattle.hist.specs.declared.event.Event.{Event}
+use Rattle.hist.specs.declared.event.Event.TheVariants as events
+use Rattle.hist.specs.declared.period.Period.{Period}
+use Rattle.hist.specs.Logged.{Logged}
+use Rattle.hist.specs.History.{entries_of, history}
+
+-- ---- the beginning
+
+-- an init of the slot makes it initialized, a create of it no longer so
+abbrev pub initialized_by : ℕ → Call → Bool → Bool
+initialized_by slot (calls.Create e base size) before = if e == slot then false else before
+initialized_by slot (calls.Init e) before = if e == slot then true else before
+initialized_by slot _ before = before
+
+abbrev pub initialized_after : ℕ → Bool → Entry → Bool
+initialized_after slot before e = if is_done e.reply then initialized_by slot e.call before else before
+
+-- whether these entries have an Ok init of the enclave slot with no Ok create of it behind
+abbrev pub is_initialized : List Entry → ℕ → Bool
+is_initialized es slot = fold (initialized_after slot) false es
+
+-- the slot in a set of one enclave slot
+abbrev pub sole_slot : ℕ → ℕ
+sole_slot set = unwrap_or (find (has_bit set) (range_with_len 0 8)) 0
+
+-- Whom a call that answers Ok makes the owner of region r: an assign of it names the OS, or an enclave
+-- slot that is not initialized; an accept_region of it tried its enclave.
+abbrev pub owner_made : ℕ → (ℕ → Bool) → Call → Tried → Option Owner
+owner_made r initialized (calls.Assign q to) tried =
+    if q == r then (if to == os_word then Some owners.Os else if initialized to then None else Some (owners.Enclave to)) else None
+owner_made r initialized (calls.AcceptRegion q) tried = if q == r then Some (owners.Enclave (sole_slot tried.enclaves)) else None
+owner_made r initialized _ tried = None
+
+-- whom an entry makes the owner of region r
+abbrev pub owner_by : ℕ → (ℕ → Bool) → Entry → Option Owner
+owner_by r initialized e = if is_done e.reply then owner_made r initialized e.call e.tried else None
+
+-- the entry with this ticket, and those with lower tickets
+abbrev pub entry_at : List Entry → ℕ → Option Entry
+entry_at h ticket = find (λ e. e.ticket == ticket) h
+
+abbrev pub entries_below : List Entry → ℕ → List Entry
+entries_below h ticket = filter (λ e. nat_lt e.ticket ticket) h
+
+-- the owner of the period (r, a), if there is one: that of region r at the start is the OS
+abbrev pub owner_of_period : List Entry → ℕ → ℕ → Option Owner
+owner_of_period h r a =
+    if a == 0 then Some owners.Os else option_and_then (owner_by r (is_initialized (entries_below h a))) (entry_at h a)
+
+-- ---- the end
+
+-- an Ok block of r, or an Ok delete that has r among its tried objects
+abbrev pub withdraws : ℕ → Call → Tried → Bool
+withdraws r (calls.Block q) tried = q == r
+withdraws r (calls.Delete e) tried = has_bit tried.regions r
+withdraws r _ tried = false
+
+abbrev pub is_end : ℕ → Entry → Bool
+is_end r e = is_done e.reply && withdraws r e.call e.tried
+
+-- an Ok free of r
+abbrev pub frees : ℕ → Call → Bool
+frees r (calls.Free q) = q == r
+frees r _ = false
+
+abbrev pub is_free : ℕ → Entry → Bool
+is_free r e = is_done e.reply && frees r e.call
+
+-- the first ticket above this one of an entry that passes the test
+abbrev pub ticket_after : List Entry → ℕ → (Entry → Bool) → Option ℕ
+ticket_after h ticket test = option_map (λ e. e.ticket) (find (λ e. nat_lt ticket e.ticket && test e) h)
+
+-- the period (r, a) of a history, with b and z where they exist
+abbrev pub period_with : List Entry → ℕ → ℕ → Owner → Period
+period_with h r a owner =
+    let b = ticket_after h a (is_end r) in
+    record { region = r; owner = owner; since = a; blocked = b; freed = option_and_then (λ at. ticket_after h at (is_free r)) b }
+
+abbrev pub period_in : List Entry → ℕ → ℕ → Option Period
+period_in h r a = option_map (period_with h r a) (owner_of_period h r a)
+
+-- ---- what `period_of` asks of a history
+
+-- an assign names the OS or a slot below 8, and an accept_region tried exactly one enclave
+abbrev pub NamesOwnerIn : Call → Tried → Type 0
+NamesOwnerIn (calls.Assign r to) tried = (to ≡ os_word) ⊎ (to < 8)
+NamesOwnerIn (calls.AcceptRegion r) tried = (slot : ℕ) × (slot < 8) × (tried.enclaves ≡ 2 ^ slot)
+NamesOwnerIn _ tried = ⊤
+
+-- each assign and accept_region that answers Ok does so
+abbrev pub NameOwners : List Entry → Type 0
+NameOwners h = AllByRecursion (λ e. is_done e.reply ≡ true → NamesOwnerIn e.call e.tried) h
+
+-- ---- touches
+
+-- an Ok of flush, enter, exit, aex or set_satp
+abbrev pub clears : Call → Bool
+clears calls.Flush = true
+clears (calls.Enter e t) = true
+clears calls.Exit = true
+clears (calls.Aex saved) = true
+clears (calls.SetSatp v) = true
+clears _ = false
+
+abbrev pub IsClearing : Entry → Type 0
+IsClearing e = IsTrue (is_done e.reply && clears e.call)
+
+abbrev pub IsFlush : Entry → Type 0
+IsFlush e = IsTrue (is_done e.reply) × (e.call ≡ calls.Flush)
+
+-- for whom a core runs after these entries of its log: an Ok enter, exit or aex changes it
+abbrev pub mode_by : Call → Mode → Mode
+mode_by (calls.Enter e t) before = modes.Inside e t
+mode_by calls.Exit before = modes.Os
+mode_by (calls.Aex saved) before = modes.Os
+mode_by _ before = before
+
+abbrev pub mode_after : List Entry → Mode
+mode_after es = fold (λ before e. if is_done e.reply then mode_by e.call before else before) modes.Os es
+
+-- the OS, or the enclave that the core is inside
+abbrev pub IsOpenTo : Mode → Owner → Type 0
+IsOpenTo mode owners.Os = ⊤
+IsOpenTo modes.Os (owners.Enclave e) = ⊥
+IsOpenTo (modes.Inside f t) (owners.Enclave e) = f ≡ e
+
+-- A touch of the period p, where its core's log has these events before it and behind it: the entries
+-- before it have tickets below the block of p and those behind it above the beginning of p; the owner is
+-- the OS or the enclave that the core is inside; where p was freed, the core flushed behind the touch,
+-- between the block and the free; and it cleared between this touch and each earlier one of p.
+pub record IsSafeTouch (before : List Event) (touch : Event) (behind : List Event) (p : Period) : Type 0 where
+  pub before_block : IfSome p.blocked (λ b. AllByRecursion (λ e. e.ticket < b) (entries_of before))
+  pub after_beginning : AllByRecursion (λ e. p.since < e.ticket) (entries_of behind)
+  pub owner : IsOpenTo (mode_after (entries_of before)) p.owner
+  pub counted_flush : (b z : ℕ) → p.blocked ≡ Some b → p.freed ≡ Some z → Any (λ e. IsFlush e × (b < e.ticket) × (e.ticket < z)) (entries_of behind)
+  pub cleared : (first between : List Event) → before ≡ first ++ touch ∷ between → Any IsClearing (entries_of between)
+
+-- each touch among a core's events is one of a period of the history, and safe
+abbrev pub AreSafe : List Entry → List Event → Type 0
+AreSafe h log =
+    (before behind : List Event) (r a : ℕ) → log ≡ before ++ events.Touch r a ∷ behind → IsSomeAnd (period_in h r a) (IsSafeTouch before (events.Touch r a) behind)
+
+abbrev pub SafeLog : List Logged → Type 0
+SafeLog logs = AllByRecursion (λ log. AreSafe (history logs) log.events) logs
