@@ -1,0 +1,152 @@
+//! Digests of another program: Python's `hashlib`, over the bytes as its `struct` packs them.
+
+use crate::{Item, extend, measure_created, measure_with, page_digest, start, to_bytes, to_words};
+
+/// Of a page whose words go up by 0x0123456789abcdef from 0x1122334455667788.
+const PAGE_DIGEST: [u8; 32] = [
+    0x89, 0xd7, 0x9a, 0x15, 0x10, 0xc4, 0x44, 0x2a, 0x27, 0x51, 0x39, 0x74, 0x14, 0xe1, 0x6e, 0xd7,
+    0xa9, 0xbf, 0xf4, 0x9b, 0x5c, 0xb9, 0xfd, 0x4f, 0x29, 0xef, 0xb2, 0x7f, 0xf2, 0x14, 0x0b, 0xdf,
+];
+
+#[test]
+fn chain_of_five_items(rt: HostRuntime) {
+    let steps = [
+        (
+            Item::Create {
+                base: 65536,
+                size: 16384,
+            },
+            [
+                0x6d, 0x89, 0x46, 0xa3, 0xa1, 0x14, 0xf3, 0x8e, 0xcf, 0xc6, 0x6a, 0x33, 0x83, 0x56,
+                0x6f, 0x96, 0x82, 0x7e, 0x03, 0x21, 0xfb, 0xf9, 0x6c, 0xdc, 0x38, 0xe6, 0x8a, 0xe3,
+                0x1c, 0x05, 0x55, 0x6b,
+            ],
+        ),
+        (
+            Item::Table {
+                va: 65536,
+                level: 1,
+            },
+            [
+                0x40, 0x04, 0x2a, 0x40, 0xac, 0xb5, 0x51, 0x47, 0xeb, 0x14, 0xfe, 0x4b, 0x85, 0xa3,
+                0x2f, 0xd8, 0xf4, 0x4a, 0xcd, 0x31, 0x29, 0x22, 0xcd, 0xe7, 0x0e, 0x19, 0x0d, 0xc0,
+                0xb6, 0xb9, 0x7b, 0x35,
+            ],
+        ),
+        (
+            Item::Page {
+                va: 65536,
+                perms: 5,
+                digest: PAGE_DIGEST,
+            },
+            [
+                0x91, 0xc3, 0xde, 0x27, 0x50, 0xe4, 0x93, 0x0f, 0x5c, 0x63, 0xb2, 0xe9, 0x5d, 0x4f,
+                0xee, 0x2b, 0x96, 0x0e, 0x8b, 0xc3, 0x59, 0x0c, 0x2c, 0x40, 0xf8, 0xe4, 0xcf, 0x74,
+                0xac, 0x55, 0xd3, 0x9a,
+            ],
+        ),
+        (
+            Item::Thread {
+                entry: 65540,
+                sp: 81920,
+            },
+            [
+                0x43, 0xf9, 0x67, 0x0b, 0x28, 0xd3, 0xdd, 0xf5, 0x81, 0x3c, 0x54, 0xe0, 0x99, 0xc4,
+                0xcb, 0x6d, 0x3a, 0xe6, 0x5f, 0xba, 0x67, 0xdb, 0x87, 0x9f, 0x0f, 0xb3, 0x94, 0xe4,
+                0x06, 0x92, 0x35, 0xc4,
+            ],
+        ),
+        (
+            Item::Init,
+            [
+                0xf7, 0x64, 0xb0, 0xbe, 0x9e, 0x62, 0xb2, 0x01, 0xfc, 0x44, 0x64, 0x68, 0xdf, 0x24,
+                0x71, 0x5c, 0x82, 0x9e, 0xc7, 0x00, 0x46, 0xfe, 0xf0, 0xa2, 0x76, 0x1a, 0xfb, 0x58,
+                0x44, 0xbe, 0xf2, 0x99,
+            ],
+        ),
+    ];
+    let mut m = start();
+    for (item, expected) in steps {
+        m = extend(&m, &item);
+        assert_eq!(rt; m, expected, "after {item:?}");
+    }
+}
+
+#[test]
+fn measurement_of_a_record(rt: HostRuntime) {
+    let mut words = measure_created(65536, 16384);
+    let items = [
+        Item::Table {
+            va: 65536,
+            level: 1,
+        },
+        Item::Page {
+            va: 65536,
+            perms: 5,
+            digest: PAGE_DIGEST,
+        },
+        Item::Thread {
+            entry: 65540,
+            sp: 81920,
+        },
+        Item::Init,
+    ];
+    for item in items {
+        words = measure_with(&words, &item);
+    }
+    assert_eq!(rt;
+        words,
+        [
+            0x01b2_629e_beb0_64f7,
+            0x5c71_24df_6864_44fc,
+            0xa2f0_fe46_00c7_9e82,
+            0x99f2_be44_58fb_1a76
+        ]
+    );
+}
+
+#[test]
+fn digests_of_pages(rt: HostRuntime) {
+    let mut words = [0u64; 512];
+    assert_eq!(rt;
+        page_digest(&words),
+        [
+            0xad, 0x7f, 0xac, 0xb2, 0x58, 0x6f, 0xc6, 0xe9, 0x66, 0xc0, 0x04, 0xd7, 0xd1, 0xd1,
+            0x6b, 0x02, 0x4f, 0x58, 0x05, 0xff, 0x7c, 0xb4, 0x7c, 0x7a, 0x85, 0xda, 0xbd, 0x8b,
+            0x48, 0x89, 0x2c, 0xa7
+        ]
+    );
+    let mut next: u64 = 0x1122_3344_5566_7788;
+    for place in 0..512 {
+        words[place] = next;
+        next = next.wrapping_add(0x0123_4567_89ab_cdef);
+    }
+    assert_eq!(rt; page_digest(&words), PAGE_DIGEST);
+}
+
+#[test]
+fn words_and_bytes(rt: HostRuntime) {
+    let bytes = [
+        0, 1, 2, 3, 4, 5, 6, 7, 8, 9, 10, 11, 12, 13, 14, 15, 16, 17, 18, 19, 20, 21, 22, 23, 248,
+        249, 250, 251, 252, 253, 254, 255,
+    ];
+    let words = [
+        0x0706_0504_0302_0100,
+        0x0f0e_0d0c_0b0a_0908,
+        0x1716_1514_1312_1110,
+        0xfffe_fdfc_fbfa_f9f8,
+    ];
+    assert_eq!(rt; to_words(&bytes), words);
+    assert_eq!(rt; to_bytes(&words), bytes);
+}
+
+#[test]
+fn reserved_page(rt: HostRuntime) {
+    assert_eq!(rt;
+        Item::reserved(65536, 3),
+        Item::Table {
+            va: 65536,
+            level: 11
+        }
+    );
+}
