@@ -1,0 +1,69 @@
+//! What the calls answer that the enclave's record alone decides.
+
+ghost use Rattle.std.specs.Prelude.{◌≡◌};
+ghost use Rattle.mon_types.specs.Enclaves.{stage_code};
+ghost use Rattle.mon_model.specs.Replies.{done};
+ghost use Rattle.mon_model.specs.EnclaveCalls.{create_reply, init_reply, delete_reply, enclave_info_reply};
+
+use crate::replies::{done_reply, reply_if};
+use mon_types::{Enclave, Reply, Stage};
+
+/// create: InvalidState where the slot is not Empty.
+pub fn decide_create(enclave: &Enclave) -> Reply
+    ensures { result ≡ create_reply enclave.now }
+{
+    reply_if(enclave.stage == Stage::Empty)
+}
+
+/// init: InvalidState where the enclave is not Loading, or has no root or no thread.
+pub fn decide_init(enclave: &Enclave) -> Reply
+    ensures { result ≡ init_reply enclave.now }
+{
+    reply_if(enclave.stage == Stage::Loading && enclave.root.is_some() && enclave.threads != 0)
+}
+
+/// delete: InvalidState where the slot is Empty, or threads of the enclave are left.
+pub fn decide_delete(enclave: &Enclave) -> Reply
+    ensures { result ≡ delete_reply enclave.now }
+{
+    reply_if(enclave.stage != Stage::Empty && enclave.threads == 0)
+}
+
+fn stage_word(stage: Stage) -> u64
+    ensures { result ≡ stage_code stage }
+{
+    match stage {
+        Stage::Empty => 0,
+        Stage::Loading => 1,
+        Stage::Initialized => 2,
+    }
+}
+
+/// enclave_info, which has no refusal here. The words are the stage (0 Empty, 1 Loading, 2
+/// Initialized), base and size in bytes, the region set, and the four words of the measurement.
+pub fn decide_enclave_info(enclave: &Enclave) -> Reply
+    ensures { result ≡ enclave_info_reply enclave.now }
+{
+    let [m0, m1, m2, m3] = enclave.measure;
+    let stage = stage_word(enclave.stage);
+    Reply::Ok {
+        count: 8,
+        words: [
+            stage,
+            enclave.base,
+            enclave.size,
+            enclave.regions,
+            m0,
+            m1,
+            m2,
+            m3,
+        ],
+    }
+}
+
+/// set_satp, which has no refusal here.
+pub fn decide_satp() -> Reply
+    ensures { result ≡ done }
+{
+    done_reply()
+}
