@@ -1,3 +1,6 @@
-pub mod Stepped
 pub mod TriedSets
 pub mod Limits
+pub mod Deleting
+pub mod Sound
+pub mod Room
+pub mod Arguments

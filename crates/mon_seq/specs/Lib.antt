@@ -1,5 +1,6 @@
 pub mod Sequential
 pub mod Tables
-pub mod Held
+pub mod InRange
+pub mod Deleted
 pub mod Tried
 pub mod Turns

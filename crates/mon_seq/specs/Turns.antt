@@ -1,15 +1,14 @@
 -- Lists of calls and skipped tickets, and what the monitor is after them. This project's own.
-use Rattle.std.specs.Prelude.{◌≡◌, ◌<◌, ⊤, true, List}
+use Rattle.std.specs.Prelude.{◌<◌, ⊤, List}
 use Rattle.std.specs.List.{fold}
 use Rattle.mon_types.specs.Shape.{Shape}
-use Rattle.mon_types.specs.Built.{is_built_call}
 use Rattle.mon_seq.specs.Sequential.{Sequential, then_call, then_skip}
 use Rattle.mon_seq.specs.declared.turns.Turn.{Turn}
 use Rattle.mon_seq.specs.declared.turns.Turn.TheVariants as kinds
 
--- a call by a core of this machine that is carried out so far, or a skipped ticket
+-- a call by a core of this machine, or a skipped ticket
 abbrev pub IsTurn : Shape → Turn → Type 0
-IsTurn shape (kinds.Call core call digest) = (core < shape.cores) × (is_built_call call ≡ true)
+IsTurn shape (kinds.Call core call digest) = core < shape.cores
 IsTurn shape kinds.Skip = ⊤
 
 -- the monitor after one turn, and after these turns in order

@@ -2,14 +2,22 @@
 //! but the first, which makes the monitor.
 #![tactic(auto)]
 
-mod calls;
+mod board;
+mod enclaves;
+mod loading;
+mod loads;
+mod mail;
 mod monitor;
 mod refuse;
+mod regions;
+mod step;
 mod tables;
 #[cfg(test)]
 mod tests;
+mod threads;
 mod tries;
 mod turns;
+mod words;
 
 pub use monitor::Monitor;
 pub use tables::Tables;
