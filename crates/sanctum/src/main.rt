@@ -53,4 +53,6 @@ fn command_words<R: Env + Alloc<A = Global>>(rt: &R) -> io::Result<Vec<String>> 
 }
 
 #[cfg(test)]
+mod edges;
+#[cfg(test)]
 mod tests;

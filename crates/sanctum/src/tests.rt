@@ -82,7 +82,7 @@ fn repeated(alloc: Global, text: &str, times: u32) -> Result<Vec<u8>, AllocError
 }
 
 /// Runs the words over one file, and a sink that fails the listed calls.
-fn run<R: Threads + Sync>(
+pub fn run<R: Threads + Sync>(
     rt: &R,
     alloc: Global,
     words: &[&str],
