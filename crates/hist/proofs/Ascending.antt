@@ -14,7 +14,7 @@ all_placed P e [] here all = (here, tt)
 all_placed P e (x ∷ es) here all =
     elim (ltb e.ticket x.ticket) as (λ b. AllByRecursion P (if b then e ∷ x ∷ es else x ∷ placed e es)) [ true ↦ (here, all) | false ↦ (all.0, all_placed P e es here all.1) ]
 
-all_ordered : (P : Entry → Type 0) (es : List Entry) → AllByRecursion P es → AllByRecursion P (in_ticket_order es)
+pub all_ordered : (P : Entry → Type 0) (es : List Entry) → AllByRecursion P es → AllByRecursion P (in_ticket_order es)
 all_ordered P [] all = tt
 all_ordered P (e ∷ es) all = all_placed P e (in_ticket_order es) all.0 (all_ordered P es all.1)
 
@@ -32,7 +32,7 @@ ascend_placed e (x ∷ es) avoids ascend =
     refl
 
 -- no ticket stands twice
-abbrev AreDistinct : List Entry → Type 0
+abbrev pub AreDistinct : List Entry → Type 0
 AreDistinct [] = Unit {0}
 AreDistinct (e ∷ es) = Avoids e es × AreDistinct es
 

@@ -4,3 +4,4 @@ pub mod Begun
 pub mod Walked
 pub mod Ascending
 pub mod Periods
+pub mod Lawful

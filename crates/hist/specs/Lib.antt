@@ -5,3 +5,5 @@ pub mod Merging
 pub mod Period
 pub mod Busy
 pub mod Walk
+pub mod Rows
+pub mod Laws

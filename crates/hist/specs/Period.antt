@@ -1,5 +1,5 @@
 -- Periods of ownership, read off a history, and what a touch of one must keep. This project's own.
-use Rattle.std.specs.Prelude.{◌≡◌, ℕ, ◌^◌, ◌<◌, ◌⊎◌, ⊤, Bool, true, false, ◌==◌, ◌&&◌, nat_lt, if◌then◌else◌, IsTrue, List, ◌∷◌, ◌++◌, filter, find, fold, Any, Option, Some, None, unwrap_or, option_and_then, IfSome, IsSomeAnd}
+use Rattle.std.specs.Prelude.{◌≡◌, ℕ, ◌^◌, ◌<◌, ◌⊎◌, ⊤, Bool, true, false, ◌==◌, ◌&&◌, nat_lt, if◌then◌else◌, IsTrue, List, [], ◌∷◌, ◌++◌, filter, find, fold, Any, Option, Some, None, unwrap_or, option_and_then, IfSome, IsSomeAnd}
 use Rattle.std.specs.Option.{option_map}
 use Rattle.std.specs.List.{range_with_len, AllByRecursion}
 use Rattle.mon_types.specs.declared.region.Owner.{Owner}
@@ -139,6 +139,11 @@ IsOpenTo mode owners.Os = ⊤
 IsOpenTo modes.Os (owners.Enclave e) = ⊥
 IsOpenTo (modes.Inside f t) (owners.Enclave e) = f ≡ e
 
+-- each equal touch among these events has a clearing entry behind it
+abbrev pub ClearedSince : Event → List Event → Type 0
+ClearedSince touch [] = ⊤
+ClearedSince touch (event ∷ behind) = (event ≡ touch → Any IsClearing (entries_of behind)) × ClearedSince touch behind
+
 -- A touch of the period p, where its core's log has these events before it and behind it: the entries
 -- before it have tickets below the block of p and those behind it above the beginning of p; the owner is
 -- the OS or the enclave that the core is inside; where p was freed, the core flushed behind the touch,
@@ -148,12 +153,19 @@ pub record IsSafeTouch (before : List Event) (touch : Event) (behind : List Even
   pub after_beginning : AllByRecursion (λ e. p.since < e.ticket) (entries_of behind)
   pub owner : IsOpenTo (mode_after (entries_of before)) p.owner
   pub counted_flush : (b z : ℕ) → p.blocked ≡ Some b → p.freed ≡ Some z → Any (λ e. IsFlush e × (b < e.ticket) × (e.ticket < z)) (entries_of behind)
-  pub cleared : (first between : List Event) → before ≡ first ++ touch ∷ between → Any IsClearing (entries_of between)
+  pub cleared : ClearedSince touch before
 
--- each touch among a core's events is one of a period of the history, and safe
-abbrev pub AreSafe : List Entry → List Event → Type 0
-AreSafe h log =
-    (before behind : List Event) (r a : ℕ) → log ≡ before ++ events.Touch r a ∷ behind → IsSomeAnd (period_in h r a) (IsSafeTouch before (events.Touch r a) behind)
+-- an event of a log: where it is a touch, it is one of a period of the history, and safe
+abbrev pub IsSafe : List Entry → List Event → Event → List Event → Type 0
+IsSafe h before (events.Entry e) behind = ⊤
+IsSafe h before (events.Touch r a) behind = IsSomeAnd (period_in h r a) (IsSafeTouch before (events.Touch r a) behind)
+IsSafe h before (events.Stop line why) behind = ⊤
 
+-- the events of a log behind these
+abbrev pub AreSafe : List Entry → List Event → List Event → Type 0
+AreSafe h before [] = ⊤
+AreSafe h before (event ∷ behind) = IsSafe h before event behind × AreSafe h (before ++ event ∷ []) behind
+
+-- the touches of all logs
 abbrev pub SafeLog : List Logged → Type 0
-SafeLog logs = AllByRecursion (λ log. AreSafe (history logs) log.events) logs
+SafeLog logs = AllByRecursion (λ log. AreSafe (history logs) [] log.events) logs

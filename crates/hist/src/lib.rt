@@ -4,14 +4,17 @@
 
 mod event;
 mod finished;
+mod laws;
 mod log;
 mod merge;
 mod period;
+pub mod rows;
 #[cfg(test)]
 mod tests;
 
 pub use event::{Entry, Event, PageInput, Why};
 pub use finished::Finished;
+pub use laws::{legal_logs_merge, never_busy_alone};
 pub use log::Log;
 pub use merge::Merge;
 pub use period::{Period, period_of};
