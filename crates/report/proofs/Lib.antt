@@ -2,4 +2,3 @@ pub mod Digits
 pub mod Sets
 pub mod Joined
 pub mod Pieces
-pub mod Histories

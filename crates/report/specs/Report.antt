@@ -7,7 +7,6 @@ use Rattle.mon_types.specs.Shape.{Shape}
 use Rattle.hist.specs.declared.finished.Finished.{Finished}
 use Rattle.hist.specs.Logged.{Logged}
 use Rattle.hist.specs.History.{history}
-use Rattle.hist.specs.Legal.{AreOwnLogs}
 use Rattle.report.specs.Objects.{numbered}
 use Rattle.report.specs.Calls.{call_line, IsPrintable}
 use Rattle.report.specs.Events.{log_text}
@@ -68,9 +67,3 @@ pub record HasAllCores (f : Finished) : Type 0 where
 -- each call of the history can be told by its line
 abbrev pub ArePrintable : List Logged → Type 0
 ArePrintable logs = AllByRecursion IsPrintable (history logs)
-
--- Until the logs of several cores are merged: there is one core, and its log has that core's own entries in
--- the order of their tickets.
-pub record IsOneLog (f : Finished) : Type 0 where
-  pub one : f.config.cores ≡ 1
-  pub own : AreOwnLogs 0 f.logs

@@ -1,9 +1,9 @@
-//! The lines of a report and one whole report, written out by hand.
+//! The lines of a report and two whole reports, written out by hand.
 
-ghost use Rattle.std.specs.Prelude.{◌≡◌, ◌<◌, ◌-◌, [], ◌∷◌, None, IfOk};
+ghost use Rattle.std.specs.Prelude.{◌≡◌, ◌≤◌, length, [], ◌∷◌, None, IfOk};
 ghost use Rattle.hist.specs.declared.event.Event.TheVariants as events;
-ghost use Rattle.hist.specs.Legal.{AreOwnLogs};
-ghost use Rattle.report.specs.Report.{HasAllCores, ArePrintable, IsOneLog};
+ghost use Rattle.hist.specs.Merging.{CanMerge};
+ghost use Rattle.report.specs.Report.{HasAllCores, ArePrintable};
 
 use crate::calls::line_of_call;
 use crate::events::{line_of_event, line_of_log};
@@ -263,42 +263,78 @@ fn enclave_lines(rt: HostRuntime) -> Result<(), Fail> {
     Ok(())
 }
 
-/// A call of core 0 that tried region 3 and the core's flush clock, or one of them.
-fn made(ticket: u32, call: Call, reply: Reply, regions: u64, cells: u16) -> Event
-    requires { 0 < ticket }
-    ensures { result ≡ events.Entry record { ticket = ticket; core = 0; serial = ticket - 1; call = call; page = None; reply = reply; tried = record { enclaves = 0; threads = 0; regions = regions; cells = cells } } }
+/// The set of tried objects with these regions and cells.
+fn tried(regions: u64, cells: u16) -> Tried
+    ensures { result ≡ record { enclaves = 0; threads = 0; regions = regions; cells = cells } }
+{
+    Tried {
+        enclaves: 0,
+        threads: 0,
+        regions,
+        cells,
+    }
+}
+
+/// A call that read no page, in its core's log.
+fn made(ticket: u32, core: u8, serial: u32, call: Call, reply: Reply, tried: Tried) -> Event
+    ensures { result ≡ events.Entry record { ticket = ticket; core = core; serial = serial; call = call; page = None; reply = reply; tried = tried } }
 {
     Event::Entry(Entry {
         ticket,
-        core: 0,
-        serial: ticket - 1,
+        core,
+        serial,
         call,
         page: None,
         reply,
-        tried: Tried {
-            enclaves: 0,
-            threads: 0,
-            regions,
-            cells,
-        },
+        tried,
+    })
+}
+
+const DONE: Reply = Reply::Ok {
+    count: 0,
+    words: [0; 8],
+};
+
+/// What a run of the plain machine leaves in which no core entered an enclave.
+fn left(
+    alloc: Global,
+    logs: Items<Log>,
+    regions: Vec<Region>,
+    flushed: Items<u32>,
+) -> Result<Finished, AllocError>
+    requires some { 1 ≤ length logs }
+    requires most { length logs ≤ 16 }
+    requires flushed { length flushed ≡ length logs }
+    ensures cores { IfOk result HasAllCores }
+    ensures logs { IfOk result (λ f. f.logs ≡ logs) }
+{
+    let cores = logs.len();
+    Ok(Finished {
+        config: Config::plain(cores as u8),
+        logs,
+        answers: Items::new(alloc),
+        regions: Items::from_vec(regions),
+        enclaves: Items::from_vec(vec![in alloc; Enclave::empty(); 8]?),
+        threads: Items::from_vec(vec![in alloc; Thread::empty(); 16]?),
+        flushed,
+        modes: Items::from_vec(vec![in alloc; Mode::Os; cores]?),
+        words: Items::new(alloc),
     })
 }
 
 /// `block 3`, `free 3`, `flush`, `free 3` and `assign 3 os`.
 fn first_log(alloc: Global) -> Result<Log, AllocError>
     ensures printable { IfOk result (λ log. ArePrintable (log ∷ [])) }
-    ensures own { IfOk result (λ log. AreOwnLogs 0 (log ∷ [])) }
+    ensures merge { IfOk result (λ log. CanMerge (log ∷ [])) }
 {
-    let done = Reply::Ok {
-        count: 0,
-        words: [0; 8],
-    };
+    let free = Call::Free { r: 3 };
+    let assign = Call::Assign { r: 3, to: OS_WORD };
     let mut log = Log::new(alloc, 5)?;
-    log.add(made(1, Call::Block { r: 3 }, done, 8, 0));
-    log.add(made(2, Call::Free { r: 3 }, Reply::NotFlushed, 8, 1));
-    log.add(made(3, Call::Flush, done, 0, 1));
-    log.add(made(4, Call::Free { r: 3 }, done, 8, 1));
-    log.add(made(5, Call::Assign { r: 3, to: OS_WORD }, done, 8, 0));
+    log.add(made(1, 0, 0, Call::Block { r: 3 }, DONE, tried(8, 0)));
+    log.add(made(2, 0, 1, free, Reply::NotFlushed, tried(8, 1)));
+    log.add(made(3, 0, 2, Call::Flush, DONE, tried(0, 1)));
+    log.add(made(4, 0, 3, free, DONE, tried(8, 1)));
+    log.add(made(5, 0, 4, assign, DONE, tried(8, 0)));
     Ok(log)
 }
 
@@ -306,28 +342,16 @@ fn first_log(alloc: Global) -> Result<Log, AllocError>
 fn first_path(alloc: Global) -> Result<Finished, AllocError>
     ensures cores { IfOk result HasAllCores }
     ensures printable { IfOk result (λ f. ArePrintable f.logs) }
-    ensures one { IfOk result IsOneLog }
+    ensures merge { IfOk result (λ f. CanMerge f.logs) }
 {
     let mut logs = Items::new(alloc);
     logs.push(first_log(alloc)?)?;
     let mut flushed = Items::new(alloc);
     flushed.push(3)?;
-    let mut modes = Items::new(alloc);
-    modes.push(Mode::Os)?;
     let owner = Owner::Os;
     let mut regions = vec![in alloc; Region::Owned { owner, since: 0 }; 8]?;
     regions[3] = Region::Owned { owner, since: 5 };
-    Ok(Finished {
-        config: Config::plain(1),
-        logs,
-        answers: Items::new(alloc),
-        regions: Items::from_vec(regions),
-        enclaves: Items::from_vec(vec![in alloc; Enclave::empty(); 8]?),
-        threads: Items::from_vec(vec![in alloc; Thread::empty(); 16]?),
-        flushed,
-        modes,
-        words: Items::new(alloc),
-    })
+    left(alloc, logs, regions, flushed)
 }
 
 const FIRST_REPORT: &str = "sanctum report 1
@@ -371,5 +395,93 @@ fn a_report_goes_out_line_by_line(rt: HostRuntime) -> Result<(), Fail> {
     }
     let mut out = VecSink::new(alloc, FIRST_REPORT.len(), vec![in alloc; 23]?)?;
     assert_eq!(rt; report(&finished, &mut out), Ok(()));
+    Ok(())
+}
+
+/// `block 3`, `flush` and `free 3` of core 0; `block 4`, a step into region 0, `flush` and `assign 4 os`
+/// of core 1.
+fn two_logs(alloc: Global) -> Result<Items<Log>, AllocError>
+    ensures cores { IfOk result (λ logs. length logs ≡ 2) }
+    ensures printable { IfOk result (λ logs. ArePrintable logs) }
+    ensures merge { IfOk result (λ logs. CanMerge logs) }
+{
+    let mut zero = Log::new(alloc, 3)?;
+    zero.add(made(1, 0, 0, Call::Block { r: 3 }, DONE, tried(8, 0)));
+    zero.add(made(4, 0, 1, Call::Flush, DONE, tried(0, 1)));
+    zero.add(made(5, 0, 2, Call::Free { r: 3 }, DONE, tried(8, 3)));
+    let touch = Event::Touch {
+        region: 0,
+        since: 0,
+    };
+    let assign = Call::Assign { r: 4, to: OS_WORD };
+    let mut one = Log::new(alloc, 4)?;
+    one.add(made(2, 1, 0, Call::Block { r: 4 }, DONE, tried(16, 0)));
+    one.add(touch);
+    one.add(made(3, 1, 1, Call::Flush, DONE, tried(0, 2)));
+    one.add(made(6, 1, 2, assign, Reply::InvalidState, tried(16, 0)));
+    let mut logs = Items::new(alloc);
+    logs.push(zero)?;
+    logs.push(one)?;
+    Ok(logs)
+}
+
+/// The plain machine with two cores after these calls.
+fn two_cores(alloc: Global) -> Result<Finished, AllocError>
+    ensures cores { IfOk result HasAllCores }
+    ensures printable { IfOk result (λ f. ArePrintable f.logs) }
+    ensures merge { IfOk result (λ f. CanMerge f.logs) }
+{
+    let logs = two_logs(alloc)?;
+    let mut flushed = Items::new(alloc);
+    flushed.push(4)?;
+    flushed.push(3)?;
+    let owner = Owner::Os;
+    let mut regions = vec![in alloc; Region::Owned { owner, since: 0 }; 8]?;
+    regions[3] = Region::Free;
+    regions[4] = Region::Blocked {
+        owner,
+        since: 0,
+        at: 2,
+    };
+    left(alloc, logs, regions, flushed)
+}
+
+const TWO_CORES: &str = "sanctum report 1
+machine cores 2 regions 8 pages 1 shift 0
+call 1 core 0 serial 0 block 3 = ok tried r3
+call 2 core 1 serial 0 block 4 = ok tried r4
+call 3 core 1 serial 1 flush = ok tried c1
+call 4 core 0 serial 1 flush = ok tried c0
+call 5 core 0 serial 2 free 3 = ok tried r3 c0 c1
+call 6 core 1 serial 2 assign 4 18446744073709551615 = invalid_state tried r4
+log 0
+entry 1
+entry 4
+entry 5
+log 1
+entry 2
+touch 0 0
+entry 3
+entry 6
+region 0 owned os since 0
+region 1 owned os since 0
+region 2 owned os since 0
+region 3 free
+region 4 blocked os since 0 at 2
+region 5 owned os since 0
+region 6 owned os since 0
+region 7 owned os since 0
+core 0 os flushed 4
+core 1 os flushed 3
+end
+";
+
+#[test]
+fn the_calls_of_two_cores_by_ticket(rt: HostRuntime) -> Result<(), Fail> {
+    let alloc = rt.alloc();
+    let finished = two_cores(alloc)?;
+    let mut out = VecSink::new(alloc, TWO_CORES.len(), Vec::new(alloc))?;
+    assert_eq!(rt; report(&finished, &mut out), Ok(()));
+    assert_eq!(rt; out.as_slice(), TWO_CORES.as_bytes());
     Ok(())
 }

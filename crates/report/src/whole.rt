@@ -1,22 +1,19 @@
 //! The report of a finished run.
 
 ghost use Rattle.std.specs.Prelude.{◌≡◌, length, OnOk, OnErr};
-ghost use Rattle.std.specs.List.{flat_map, AllByRecursion};
 ghost use Rattle.std.specs.Io.KnownBytes.{Appends};
-ghost use Rattle.hist.specs.History.{entry_in, entries_of};
-ghost use Rattle.hist.specs.Legal.{AreOwnLogs};
+ghost use Rattle.hist.specs.Merging.{CanMerge};
 ghost use Rattle.sm_ports.specs.Causes.{HasCause};
 ghost use Rattle.sm_ports.specs.Contents.{AppendsPart};
-ghost use Rattle.report.specs.Calls.{call_line, IsPrintable};
 ghost use Rattle.report.specs.Tables.{core_lines};
 ghost use Rattle.report.specs.Written.{Writes};
-ghost use Rattle.report.specs.Report.{title_line, machine_line, end_line, head_text, calls_text, opening_text, slots_text, tables_text, records_text, report_text, HasAllCores, ArePrintable, IsOneLog};
+ghost use Rattle.report.specs.Report.{title_line, machine_line, end_line, head_text, calls_text, opening_text, slots_text, tables_text, records_text, report_text, HasAllCores, ArePrintable};
 
 use crate::calls::line_of_call;
 use crate::line::Line;
 use crate::print::{put_each, put_line};
 use crate::tables::line_of_core;
-use hist::{Event, Finished, Log};
+use hist::{Finished, Log, Merge};
 use mon_types::{Config, Mode};
 use sm_ports::{Failed, Sink, put_all};
 
@@ -60,40 +57,17 @@ fn put_head<K: Sink>(config: &Config, out: &mut K) -> Result<(), Failed>
     put_line(&line_of_machine(config), out)
 }
 
-/// Puts the line of a call, where the event is one.
-fn put_call<K: Sink>(event: &Event, out: &mut K) -> Result<(), Failed>
-    requires { AllByRecursion IsPrintable (entry_in event.now) }
-    ensures lines { Writes (K.taken out.old) (K.taken out.new) result (flat_map call_line (entry_in event.now)) }
-    ensures cause { HasCause (K.faults out.old) (K.faults out.new) result }
-{
-    match event {
-        Event::Entry(entry) => put_line(&line_of_call(entry), out),
-        Event::Touch { .. } => Ok(()),
-        Event::Stop { .. } => Ok(()),
-    }
-}
-
-/// Puts the lines of the calls among a core's events.
-fn put_calls<K: Sink>(events: &[Event], out: &mut K) -> Result<(), Failed>
-    requires { AllByRecursion IsPrintable (entries_of events.now) }
-    ensures lines { Writes (K.taken out.old) (K.taken out.new) result (flat_map call_line (entries_of events.now)) }
-    ensures cause { HasCause (K.faults out.old) (K.faults out.new) result }
-{
-    for event in events {
-        put_call(event, out)?;
-    }
-    Ok(())
-}
-
-/// Puts the lines of the calls of the only core.
+/// Puts the lines of the calls of all cores, by ticket.
 fn put_history<K: Sink>(logs: &[Log], out: &mut K) -> Result<(), Failed>
-    requires one { length logs.now ≡ 1 }
-    requires own { AreOwnLogs 0 logs.now }
+    requires merge { CanMerge logs.now }
     requires printable { ArePrintable logs.now }
     ensures lines { Writes (K.taken out.old) (K.taken out.new) result (calls_text logs.now) }
     ensures cause { HasCause (K.faults out.old) (K.faults out.new) result }
 {
-    put_calls(logs[0].events(), out)
+    for entry in Merge::new(logs) {
+        put_line(&line_of_call(entry), out)?;
+    }
+    Ok(())
 }
 
 /// Puts the lines of the cores.
@@ -111,7 +85,7 @@ fn put_cores<K: Sink>(modes: &[Mode], flushed: &[u32], out: &mut K) -> Result<()
 fn put_opening<K: Sink>(finished: &Finished, out: &mut K) -> Result<(), Failed>
     requires cores { HasAllCores finished.now }
     requires printable { ArePrintable finished.now.logs }
-    requires one { IsOneLog finished.now }
+    requires merge { CanMerge finished.now.logs }
     ensures lines { Writes (K.taken out.old) (K.taken out.new) result (opening_text finished.now) }
     ensures cause { HasCause (K.faults out.old) (K.faults out.new) result }
 {
@@ -149,7 +123,7 @@ fn put_records<K: Sink>(finished: &Finished, out: &mut K) -> Result<(), Failed>
 fn put_report<K: Sink>(finished: &Finished, out: &mut K) -> Result<(), Failed>
     requires cores { HasAllCores finished.now }
     requires printable { ArePrintable finished.now.logs }
-    requires one { IsOneLog finished.now }
+    requires merge { CanMerge finished.now.logs }
     ensures lines { Writes (K.taken out.old) (K.taken out.new) result (report_text finished.now) }
     ensures cause { HasCause (K.faults out.old) (K.faults out.new) result }
 {
@@ -158,12 +132,13 @@ fn put_report<K: Sink>(finished: &Finished, out: &mut K) -> Result<(), Failed>
     put_all(out, end())
 }
 
-/// Writes the report of a finished run, each line as one piece. `Failed` comes only where the sink's
+/// Writes the report of a finished run, each line as one piece; the calls of all cores come by ticket.
+/// Takes no memory. `Failed` comes only where the sink's
 /// count of faults rose; the sink has then taken a proper front of the report.
 pub fn report<K: Sink>(finished: &Finished, out: &mut K) -> Result<(), Failed>
     requires cores { HasAllCores finished.now }
     requires printable { ArePrintable finished.now.logs }
-    requires one { IsOneLog finished.now }
+    requires merge { CanMerge finished.now.logs }
     ensures ok { OnOk result (Appends (K.taken out.old) (K.taken out.new) (report_text finished.now)) }
     ensures err { OnErr result (AppendsPart (K.taken out.old) (K.taken out.new) (report_text finished.now)) }
     ensures cause { HasCause (K.faults out.old) (K.faults out.new) result }
