@@ -3,12 +3,13 @@
 ghost use Rattle.std.specs.Prelude.{◌≡◌, ◌*◌, ◌<◌, IfOk, [], ◌∷◌, replicate, vec_len, vec_capacity};
 ghost use Rattle.mon_types.specs.Shape.{page_total};
 ghost use Rattle.mon_seq.specs.Tables.{AreTables};
-ghost use Rattle.report.specs.Report.{HasAllCores, ArePrintable, IsOneLog};
+ghost use Rattle.hist.specs.Merging.{CanMerge};
+ghost use Rattle.report.specs.Report.{HasAllCores, ArePrintable};
 ghost use Rattle.solo.specs.Follows.{IsRunOf};
 ghost use Rattle.solo.specs.Carried.{IsCarriedOut, IsPlainImage, lines_of_core_0};
 
 use crate::lines::{EVENT_BUDGET, run_lines};
-use hist::{Finished, Log};
+use hist::{Finished, Log, legal_logs_merge};
 use mon_seq::Monitor;
 use mon_types::{Config, Image, Items, Line, Script};
 use std::alloc::{AllocError, Global};
@@ -92,7 +93,7 @@ pub fn solo(alloc: Global, image: &Image, script: Script) -> Result<Finished, Al
     // A report of it can be written.
     ensures cores { IfOk result HasAllCores }
     ensures printable { IfOk result (λ f. ArePrintable f.logs) }
-    ensures one { IfOk result IsOneLog }
+    ensures merge { IfOk result (λ f. CanMerge f.logs) }
 {
     let config = image.config;
     let mut log = Log::new(alloc, EVENT_BUDGET)?;
@@ -101,5 +102,7 @@ pub fn solo(alloc: Global, image: &Image, script: Script) -> Result<Finished, Al
     let answers = no_answers(alloc)?;
     let words = zero_words(alloc, &config)?;
     run_lines(&mut log, &mut monitor, lines_of(&script));
+    // States that the one log can be merged.
+    legal_logs_merge();
     Ok(finished(config, log, logs, answers, words, monitor))
 }

@@ -7,7 +7,7 @@ pub returns : goal.returns
 returns c =
     let e = c.finished.ensures in
     let whole : WholeRun (lines_of_core_0 c.args.script.cores) c.finished.result =
-    solo_run c.finished.result c.args.script.cores c.lines_of.result.now c.run_lines.new.log c.in_ok-monitor.monitor c.run_lines.new.monitor c.args.image.now.config
+    solo_run c.legal_logs_merge.ensures c.finished.result c.args.script.cores c.lines_of.result.now c.run_lines.new.log c.in_ok-monitor.monitor c.run_lines.new.monitor c.args.image.now.config
     c.requires.script c.requires.image.machine c.lines_of.ensures c.in_ok-monitor.ensures e.config e.logs c.run_lines.ensures.events c.run_lines.ensures.state
     (record { regions = e.regions; enclaves = e.enclaves; threads = e.threads; flushed = e.flushed; modes = e.modes }) e.sound in
     record {
@@ -16,5 +16,5 @@ returns c =
       answers = e.answers ∙ c.in_ok-answers.ensures;
       cores = whole.cores;
       printable = whole.printable;
-      one = whole.one;
+      merge = whole.merge;
     }
