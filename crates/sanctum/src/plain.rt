@@ -1,7 +1,8 @@
 //! The plain machine: 8 regions of one page, all words zero, and here one core.
 
 ghost use Rattle.std.specs.Prelude.{◌≡◌, IfOk};
-ghost use Rattle.report.specs.Report.{HasAllCores, ArePrintable, IsOneLog};
+ghost use Rattle.hist.specs.Merging.{CanMerge};
+ghost use Rattle.report.specs.Report.{HasAllCores, ArePrintable};
 ghost use Rattle.solo.specs.Follows.{IsRunOf};
 ghost use Rattle.solo.specs.Carried.{IsCarriedOut, IsPlainImage, lines_of_core_0};
 
@@ -16,7 +17,7 @@ pub fn run_plain(alloc: Global, script: Script) -> Result<Finished, AllocError>
     ensures run { IfOk result (λ f. IsRunOf (lines_of_core_0 script.cores) f) }
     ensures cores { IfOk result HasAllCores }
     ensures printable { IfOk result (λ f. ArePrintable f.logs) }
-    ensures one { IfOk result IsOneLog }
+    ensures merge { IfOk result (λ f. CanMerge f.logs) }
 {
     let image = plain_image(alloc)?;
     solo(alloc, &image, script)

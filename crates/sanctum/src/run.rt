@@ -1,8 +1,9 @@
 //! The command `script`.
 
 ghost use Rattle.std.specs.Prelude.{◌≡◌, ◌≢◌};
+ghost use Rattle.hist.specs.Merging.{CanMerge};
 ghost use Rattle.sm_ports.specs.Causes.{Rose};
-ghost use Rattle.report.specs.Report.{report_text, HasAllCores, ArePrintable, IsOneLog};
+ghost use Rattle.report.specs.Report.{report_text, HasAllCores, ArePrintable};
 ghost use Rattle.solo.specs.Carried.{IsCarriedOut, lines_of_core_0};
 ghost use Rattle.sanctum.specs.declared.words.Order.TheVariants as orders;
 ghost use Rattle.sanctum.specs.Headline.{Says, Prints, Ends, IsRunText};
@@ -53,7 +54,7 @@ fn run_and_print<K: Sink>(alloc: Global, script: Script, out: &mut K) -> Status
 fn print<K: Sink>(out: &mut K, finished: &Finished) -> Status
     requires cores { HasAllCores finished.now }
     requires printable { ArePrintable finished.now.logs }
-    requires one { IsOneLog finished.now }
+    requires merge { CanMerge finished.now.logs }
     ensures prints { Prints (K.taken out.old) (K.taken out.new) (report_text finished.now) Status.Ok result }
     ensures write_fault { result ≡ Status.WriteFault → Rose (K.faults out.old) (K.faults out.new) }
 {
