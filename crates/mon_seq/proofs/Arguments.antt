@@ -1,13 +1,12 @@
 -- The arguments of a call that is not refused early are in range.
-use Rattle.std.proofs.Common.{◌≡◌, ℕ, ◌<◌, Bool, true, false, cond, not, ◌||◌, ◌&&◌, nat_eq, nat_lt, nat_le, Option, Some, None, refl, arith}
+use Rattle.std.proofs.Common.{◌≡◌, ℕ, ◌<◌, Bool, true, false, cond, not, ◌||◌, ◌&&◌, nat_eq, nat_lt, nat_le, Some, None, refl, arith}
 use Rattle.std.proofs.lemmas.Bool.Decides.{nat_tests}
 use Rattle.mon_types.specs.Shape.{Shape, page_total}
 use Rattle.mon_types.specs.declared.thread.Mode.{Mode}
 use Rattle.mon_types.specs.declared.call.Call.{Call}
 use Rattle.mon_types.specs.declared.call.Call.TheVariants as calls
-use Rattle.mon_types.specs.declared.reply.Reply.{Reply}
 use Rattle.mon_types.specs.declared.reply.Reply.TheVariants as replies
-use Rattle.mon_model.specs.Early.{os_word, is_unsupported, is_wrong_mode, is_bad_value, is_no_slot, is_no_thread, is_no_mailbox, is_no_page, is_no_region, is_fixed_region, are_bad_perms, is_bad_level, early}
+use Rattle.mon_model.specs.Early.{os_word, is_unsupported, is_wrong_mode, is_bad_value, is_no_slot, is_fixed_region, are_bad_perms, is_bad_level, early}
 use Rattle.mon_seq.specs.InRange.{IsInRange}
 
 -- no refusal: not of the values

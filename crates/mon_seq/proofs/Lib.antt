@@ -4,3 +4,4 @@ pub mod Deleting
 pub mod Sound
 pub mod Room
 pub mod Arguments
+pub mod Dated

@@ -1,10 +1,9 @@
 -- A slot has room for an item that a call loads.
-use Rattle.std.proofs.Common.{◌≡◌, ℕ, ◌<◌, ◌≤◌, true, List, length, ◌∙◌, arith}
+use Rattle.std.proofs.Common.{◌≡◌, ℕ, ◌<◌, true, List, length, arith}
 use Rattle.mon_types.specs.Shape.{Shape}
 use Rattle.mon_types.specs.declared.region.Region.{Region}
 use Rattle.mon_types.specs.declared.enclave.Enclave.{Enclave}
 use Rattle.mon_types.specs.declared.enclave.Loaded.{Loaded}
-use Rattle.mon_types.specs.declared.reply.Reply.{Reply}
 use Rattle.mon_model.specs.Replies.{is_done}
 use Rattle.mon_model.specs.EnclaveCalls.{load_table_reply, load_page_reply, reserve_reply}
 use Rattle.mon_seq.specs.Tables.{IsSlot}

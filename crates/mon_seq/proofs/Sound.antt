@@ -1,6 +1,5 @@
 -- What always holds of the tables still holds after each call.
-use Rattle.std.proofs.Common.{◌≡◌, ◌≢◌, ℕ, suc, ◌+◌, ◌<◌, ◌≤◌, Bool, true, false, cond, ◌&&◌, nat_le, nat_eq, List, [], ◌∷◌, ◌++◌, length, get_or, slice_set, replicate, inl, inr, refl, sym, ap, ◌∙◌, subst, arith, length-append, add-one}
-use Rattle.std.specs.List.{AllByRecursion}
+use Rattle.std.proofs.Common.{◌≡◌, ℕ, ◌+◌, ◌<◌, ◌≤◌, Bool, true, false, cond, ◌&&◌, nat_le, nat_eq, List, [], ◌∷◌, ◌++◌, length, get_or, slice_set, replicate, inl, inr, refl, sym, ap, ◌∙◌, arith, length-append}
 use Rattle.std.proofs.lemmas.List.{length-set, length-replicate, get_or_past, get_or-replicate, get_or-set_same, get_or-set_other}
 use Rattle.std.proofs.lemmas.List.Elements.{All-set}
 use Rattle.std.proofs.lemmas.Bool.{eqb-false}
@@ -22,15 +21,14 @@ use Rattle.mon_types.specs.declared.call.Call.TheVariants as calls
 use Rattle.mon_types.specs.declared.reply.Reply.{Reply}
 use Rattle.mon_types.specs.declared.reply.Reply.TheVariants as replies
 use Rattle.mon_model.specs.State.{State, start, enclave_at, loaded_at, mode_of, with_region, with_enclave, with_thread, with_flushed, with_mode, with_slot}
-use Rattle.mon_model.specs.Bits.{has_bit}
 use Rattle.mon_model.specs.Replies.{is_done}
 use Rattle.mon_model.specs.Early.{os_word}
 use Rattle.mon_model.specs.RegionCalls.{is_loading, is_initialized, gains_region, with_assigned}
-use Rattle.mon_model.specs.Loading.{is_next_page, takes_page, reserves_page, has_place_for_leaf}
-use Rattle.mon_model.specs.EnclaveCalls.{done_if, is_os_owned, leaf_fits, load_table_reply, load_page_reply, reserve_reply}
+use Rattle.mon_model.specs.Loading.{has_root, is_next_page, takes_page, has_place_for_leaf}
+use Rattle.mon_model.specs.EnclaveCalls.{done_if, init_reply, is_os_owned, leaf_fits, load_table_reply, load_page_reply, reserve_reply}
 use Rattle.mon_model.specs.Step.{own_slot, held_reply, effect, with_item, with_deleted, regions_of, without_own_region}
 use Rattle.mon_enclaves.specs.FromItems.{StandInPages}
-use Rattle.mon_seq.specs.Tables.{NamesSlots, IsSlot, AreTables}
+use Rattle.mon_seq.specs.Tables.{NamesSlots, IsRooted, IsSlot, AreTables}
 use Rattle.mon_seq.specs.InRange.{IsInRange}
 
 -- ---- which page is taken
@@ -52,19 +50,44 @@ next_page enclave page h =
     let le : nat_le enclave.next_page page ≡ true = second (is_loading enclave.stage) (nat_le enclave.next_page page) h in
     grind (arith, nat_tests)
 
--- a page that a call loads is not below the next one
-pub table_takes : (shape : Shape) (enclave : Enclave) (items : List Loaded) (va level page : ℕ) → is_done (load_table_reply shape enclave items va level page) ≡ true → enclave.next_page ≤ page
-table_takes shape enclave items va level page h = next_page enclave page (first _ _ (first _ _ (first _ _ (done-if _ h))))
+loading : (enclave : Enclave) (page : ℕ) → is_next_page enclave page ≡ true → is_loading enclave.stage ≡ true
+loading enclave page h = first (is_loading enclave.stage) (nat_le enclave.next_page page) h
 
-pub page_takes : (shape : Shape) (enclave : Enclave) (items : List Loaded) (source : Region) (va page : ℕ) → is_done (load_page_reply shape enclave items source va page) ≡ true → enclave.next_page ≤ page
-page_takes shape enclave items source va page h = next_page enclave page (first _ _ (first _ _ (taken (takes_page shape enclave page && leaf_fits enclave va) (cond (is_os_owned source) (done_if (has_place_for_leaf items va)) replies.AccessDenied) h)))
+-- a page that a call loads is not below the next one
+table_next : (shape : Shape) (enclave : Enclave) (items : List Loaded) (va level page : ℕ) → is_done (load_table_reply shape enclave items va level page) ≡ true → is_next_page enclave page ≡ true
+table_next shape enclave items va level page h = first _ _ (first _ _ (first _ _ (done-if _ h)))
+
+page_next : (shape : Shape) (enclave : Enclave) (items : List Loaded) (source : Region) (va page : ℕ) → is_done (load_page_reply shape enclave items source va page) ≡ true → is_next_page enclave page ≡ true
+page_next shape enclave items source va page h = first _ _ (first _ _ (taken (takes_page shape enclave page && leaf_fits enclave va) (cond (is_os_owned source) (done_if (has_place_for_leaf items va)) replies.AccessDenied) h))
   where
     taken : (b : Bool) (x : Reply) → is_done (cond b x replies.InvalidState) ≡ true → b ≡ true
     taken true x h = refl
     taken false x h = h
 
+reserve_next : (shape : Shape) (enclave : Enclave) (items : List Loaded) (va page : ℕ) → is_done (reserve_reply shape enclave items va page) ≡ true → is_next_page enclave page ≡ true
+reserve_next shape enclave items va page h = first _ _ (first _ _ (first _ _ (done-if _ h)))
+
+pub table_takes : (shape : Shape) (enclave : Enclave) (items : List Loaded) (va level page : ℕ) → is_done (load_table_reply shape enclave items va level page) ≡ true → enclave.next_page ≤ page
+table_takes shape enclave items va level page h = next_page enclave page (table_next shape enclave items va level page h)
+
+pub page_takes : (shape : Shape) (enclave : Enclave) (items : List Loaded) (source : Region) (va page : ℕ) → is_done (load_page_reply shape enclave items source va page) ≡ true → enclave.next_page ≤ page
+page_takes shape enclave items source va page h = next_page enclave page (page_next shape enclave items source va page h)
+
 pub reserve_takes : (shape : Shape) (enclave : Enclave) (items : List Loaded) (va page : ℕ) → is_done (reserve_reply shape enclave items va page) ≡ true → enclave.next_page ≤ page
-reserve_takes shape enclave items va page h = next_page enclave page (first _ _ (first _ _ (first _ _ (done-if _ h))))
+reserve_takes shape enclave items va page h = next_page enclave page (reserve_next shape enclave items va page h)
+
+-- ---- roots
+
+loading_rooted : (x : Enclave) → is_loading x.stage ≡ true → IsRooted x
+loading_rooted x h = by x.stage h
+  where
+    by : (stage : Stage) → is_loading stage ≡ true → is_initialized stage ≡ true → has_root x ≡ true
+    by stages.Empty h i = cc
+    by stages.Loading h i = cc
+    by stages.Initialized h i = cc
+
+init_rooted : (enclave : Enclave) → is_done (init_reply enclave) ≡ true → has_root enclave ≡ true
+init_rooted enclave h = second (is_loading enclave.stage) (has_root enclave) (first _ _ (done-if _ h))
 
 -- ---- one change
 
@@ -112,10 +135,10 @@ slot_sound s e x xs p is h = record {
 }
 
 -- a slot with the same next page
-enclave_sound : (s : State) (e : ℕ) (x : Enclave) → e < 8 → x.next_page ≡ (enclave_at s e).next_page → AreTables s → AreTables (with_enclave s e x)
-enclave_sound s e x p same h =
+enclave_sound : (s : State) (e : ℕ) (x : Enclave) → e < 8 → x.next_page ≡ (enclave_at s e).next_page → (IsRooted (enclave_at s e) → IsRooted x) → AreTables s → AreTables (with_enclave s e x)
+enclave_sound s e x p same root h =
     let was = h.items e in
-    let is : IsSlot s.shape x (loaded_at s e) = record { count = rw same was.count; next = rw same was.next; pages = was.pages } in
+    let is : IsSlot s.shape x (loaded_at s e) = record { count = rw same was.count; next = rw same was.next; pages = was.pages; root = root was.root } in
     record {
       machine = h.machine;
       regions = h.regions;
@@ -171,7 +194,7 @@ mode_sound s c x n h = record {
 
 own_sound : (s : State) (mode : Mode) (r : ℕ) → NamesSlots mode → AreTables s → AreTables (without_own_region s mode r)
 own_sound s modes.Os r n h = h
-own_sound s (modes.Inside e t) r n h = enclave_sound s e _ n.0 refl h
+own_sound s (modes.Inside e t) r n h = enclave_sound s e _ n.0 refl (λ root. root) h
 
 assigned-next : (enclave : Enclave) (r : ℕ) → (with_assigned enclave r).next_page ≡ enclave.next_page
 assigned-next enclave r = by (is_initialized enclave.stage)
@@ -180,9 +203,16 @@ assigned-next enclave r = by (is_initialized enclave.stage)
     by true = refl
     by false = refl
 
-assign_sound : (b : Bool) (s : State) (r to : ℕ) (x y : Region) (z : Enclave) → (b ≡ false → to < 8) → z.next_page ≡ (enclave_at s to).next_page → AreTables s → AreTables (cond b (with_region s r x) (with_enclave (with_region s r y) to z))
-assign_sound true s r to x y z p same h = region_sound s r x h
-assign_sound false s r to x y z p same h = enclave_sound (with_region s r y) to z (p refl) same (region_sound s r y h)
+assigned-rooted : (enclave : Enclave) (r : ℕ) → IsRooted enclave → IsRooted (with_assigned enclave r)
+assigned-rooted enclave r root = by (is_initialized enclave.stage)
+  where
+    by : (b : Bool) → IsRooted (cond b enclave (gains_region enclave r))
+    by true = root
+    by false = root
+
+assign_sound : (b : Bool) (s : State) (r to : ℕ) (x y : Region) (z : Enclave) → (b ≡ false → to < 8) → z.next_page ≡ (enclave_at s to).next_page → (IsRooted (enclave_at s to) → IsRooted z) → AreTables s → AreTables (cond b (with_region s r x) (with_enclave (with_region s r y) to z))
+assign_sound true s r to x y z p same root h = region_sound s r x h
+assign_sound false s r to x y z p same root h = enclave_sound (with_region s r y) to z (p refl) same root (region_sound s r y h)
 
 deleted_sound : (s : State) (rs : List ℕ) (k : ℕ) → AreTables s → AreTables (with_deleted s rs k)
 deleted_sound s [] k h = h
@@ -192,16 +222,16 @@ deleted_shape : (s : State) (rs : List ℕ) (k : ℕ) → (with_deleted s rs k).
 deleted_shape s [] k = refl
 deleted_shape s (r ∷ rs) k = deleted_shape (with_region s r _) rs k
 
-empty_slot : (shape : Shape) (enclave : Enclave) → enclave.next_page ≡ 0 → IsSlot shape enclave []
-empty_slot shape enclave none = record { count = omega arith; next = omega arith; pages = tt }
+empty_slot : (shape : Shape) (enclave : Enclave) → enclave.next_page ≡ 0 → is_initialized enclave.stage ≡ false → IsSlot shape enclave []
+empty_slot shape enclave none early = record { count = omega arith; next = omega arith; pages = tt; root = λ i. cc }
 
 stand-more : (shape : Shape) (xs : List Loaded) (x : Loaded) → StandInPages shape xs → x.page < page_total shape → StandInPages shape (xs ++ x ∷ [])
 stand-more shape [] x h p = (p, tt)
 stand-more shape (y ∷ ys) x h p = (h.0, stand-more shape ys x h.1 p)
 
 -- one more item, in a page that is not below the next
-item_sound : (s : State) (e : ℕ) (x : Enclave) (kind : LoadedKind) (va page : ℕ) → e < 8 → page < page_total s.shape → (enclave_at s e).next_page ≤ page → x.next_page ≡ page + 1 → AreTables s → AreTables (with_item s e x kind va page)
-item_sound s e x kind va page p q le next h =
+item_sound : (s : State) (e : ℕ) (x : Enclave) (kind : LoadedKind) (va page : ℕ) → e < 8 → page < page_total s.shape → (enclave_at s e).next_page ≤ page → x.next_page ≡ page + 1 → is_loading x.stage ≡ true → AreTables s → AreTables (with_item s e x kind va page)
+item_sound s e x kind va page p q le next load h =
     let was = h.items e in
     let count : length (loaded_at s e) ≤ (enclave_at s e).next_page = was.count in
     let more : length (loaded_at s e ++ record { kind = kind; va = va; page = page } ∷ []) ≡ length (loaded_at s e) + 1 = length-append _ _ in
@@ -209,6 +239,7 @@ item_sound s e x kind va page p q le next h =
       count = omega arith;
       next = omega arith;
       pages = stand-more s.shape (loaded_at s e) _ was.pages q;
+      root = loading_rooted x load;
     }) h
 
 own_small : (mode : Mode) → NamesSlots mode → own_slot mode < 8
@@ -223,29 +254,29 @@ not_os to h f = h (eqb-false to os_word f)
 pub effect_sound : (s : State) (core : ℕ) (call : Call) (digest : List ℕ) (k : ℕ) → NamesSlots (mode_of s core) → IsInRange s.shape call → is_done (held_reply s core call) ≡ true → AreTables s → AreTables (effect s core call digest k)
 effect_sound s core (calls.Block r) digest k n a d h = region_sound _ r _ (own_sound s (mode_of s core) r n h)
 effect_sound s core (calls.Free r) digest k n a d h = region_sound s r _ h
-effect_sound s core (calls.Assign r to) digest k n a d h = assign_sound (nat_eq to os_word) s r to _ _ _ (not_os to a.1) (assigned-next (enclave_at s to) r) h
+effect_sound s core (calls.Assign r to) digest k n a d h = assign_sound (nat_eq to os_word) s r to _ _ _ (not_os to a.1) (assigned-next (enclave_at s to) r) (assigned-rooted (enclave_at s to) r) h
 effect_sound s core calls.Flush digest k n a d h = cell_sound s core k h
 effect_sound s core (calls.RegionInfo r) digest k n a d h = h
-effect_sound s core (calls.Create e base size) digest k n a d h = slot_sound s e _ [] a (empty_slot s.shape _ refl) h
-effect_sound s core (calls.LoadTable e va level page) digest k n a d h = item_sound s e _ _ va page a.0 a.2 (table_takes s.shape (enclave_at s e) (loaded_at s e) va level page d) refl h
-effect_sound s core (calls.LoadPage e va page src perms) digest k n a d h = item_sound s e _ kinds.Page va page a.0 a.1 (page_takes s.shape (enclave_at s e) (loaded_at s e) _ va page d) refl h
-effect_sound s core (calls.LoadThread e t entry sp) digest k n a d h = thread_sound _ t _ (enclave_sound s e _ a.0 refl h)
-effect_sound s core (calls.Init e) digest k n a d h = enclave_sound s e _ a refl h
-effect_sound s core (calls.DeleteThread e t) digest k n a d h = thread_sound _ t _ (enclave_sound s e _ a.0 refl h)
+effect_sound s core (calls.Create e base size) digest k n a d h = slot_sound s e _ [] a (empty_slot s.shape _ refl refl) h
+effect_sound s core (calls.LoadTable e va level page) digest k n a d h = item_sound s e _ _ va page a.0 a.2 (table_takes s.shape (enclave_at s e) (loaded_at s e) va level page d) refl (loading (enclave_at s e) page (table_next s.shape (enclave_at s e) (loaded_at s e) va level page d)) h
+effect_sound s core (calls.LoadPage e va page src perms) digest k n a d h = item_sound s e _ kinds.Page va page a.0 a.1 (page_takes s.shape (enclave_at s e) (loaded_at s e) _ va page d) refl (loading (enclave_at s e) page (page_next s.shape (enclave_at s e) (loaded_at s e) _ va page d)) h
+effect_sound s core (calls.LoadThread e t entry sp) digest k n a d h = thread_sound _ t _ (enclave_sound s e _ a.0 refl (λ root. root) h)
+effect_sound s core (calls.Init e) digest k n a d h = enclave_sound s e _ a refl (λ root i. init_rooted (enclave_at s e) d) h
+effect_sound s core (calls.DeleteThread e t) digest k n a d h = thread_sound _ t _ (enclave_sound s e _ a.0 refl (λ root. root) h)
 effect_sound s core (calls.Delete e) digest k n a d h =
-    slot_sound _ e empty_enclave [] a (empty_slot _ empty_enclave refl) (deleted_sound s (regions_of s e) k h)
+    slot_sound _ e empty_enclave [] a (empty_slot _ empty_enclave refl refl) (deleted_sound s (regions_of s e) k h)
 effect_sound s core (calls.Enter e t) digest k n a d h = mode_sound _ core (modes.Inside e t) a (thread_sound s t _ h)
 effect_sound s core calls.Exit digest k n a d h = mode_sound _ core modes.Os tt (thread_sound s _ _ h)
 effect_sound s core (calls.Aex saved) digest k n a d h = mode_sound _ core modes.Os tt (thread_sound s _ _ h)
 effect_sound s core calls.Restore digest k n a d h = thread_sound s _ _ h
-effect_sound s core (calls.Accept m from) digest k n a d h = enclave_sound s _ _ (own_small (mode_of s core) n) refl h
-effect_sound s core (calls.Send to m w0 w1 w2 w3) digest k n a d h = enclave_sound s to _ a.0 refl h
-effect_sound s core (calls.Read m) digest k n a d h = enclave_sound s _ _ (own_small (mode_of s core) n) refl h
+effect_sound s core (calls.Accept m from) digest k n a d h = enclave_sound s _ _ (own_small (mode_of s core) n) refl (λ root. root) h
+effect_sound s core (calls.Send to m w0 w1 w2 w3) digest k n a d h = enclave_sound s to _ a.0 refl (λ root. root) h
+effect_sound s core (calls.Read m) digest k n a d h = enclave_sound s _ _ (own_small (mode_of s core) n) refl (λ root. root) h
 effect_sound s core (calls.EnclaveInfo e) digest k n a d h = h
 effect_sound s core (calls.SetSatp v) digest k n a d h = h
 effect_sound s core (calls.AcceptRegion r) digest k n a d h =
-    enclave_sound (with_region s r _) _ _ (own_small (mode_of s core) n) refl (region_sound s r _ h)
-effect_sound s core (calls.Reserve e va page perms) digest k n a d h = item_sound s e _ kinds.Reserved va page a.0 a.1 (reserve_takes s.shape (enclave_at s e) (loaded_at s e) va page d) refl h
+    enclave_sound (with_region s r _) _ _ (own_small (mode_of s core) n) refl (λ root. root) (region_sound s r _ h)
+effect_sound s core (calls.Reserve e va page perms) digest k n a d h = item_sound s e _ kinds.Reserved va page a.0 a.1 (reserve_takes s.shape (enclave_at s e) (loaded_at s e) va page d) refl (loading (enclave_at s e) page (reserve_next s.shape (enclave_at s e) (loaded_at s e) va page d)) h
 effect_sound s core (calls.Unknown number args) digest k n a d h = h
 
 pub after_sound : (s new : State) (core : ℕ) (call : Call) (digest : List ℕ) (k : ℕ) (reply : Reply) → NamesSlots (mode_of s core) → IsInRange s.shape call → reply ≡ held_reply s core call → new ≡ cond (is_done reply) (effect s core call digest k) s → AreTables s → AreTables new
@@ -275,5 +306,5 @@ start_sound shape is = record {
   modes = length-replicate _ _;
   loaded = refl;
   slots = λ k d h. rw (get_or-replicate shape.cores k modes.Os d (omega (arith, length-replicate shape.cores modes.Os))) tt;
-  items = λ e. rw (same_everywhere 8 e empty_enclave, same_everywhere {X = List Loaded} 8 e []) (empty_slot shape empty_enclave refl);
+  items = λ e. rw (same_everywhere 8 e empty_enclave, same_everywhere {X = List Loaded} 8 e []) (empty_slot shape empty_enclave refl refl);
 }

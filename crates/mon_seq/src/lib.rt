@@ -8,7 +8,6 @@ mod loading;
 mod loads;
 mod mail;
 mod monitor;
-mod refuse;
 mod regions;
 mod step;
 mod tables;

@@ -6,7 +6,7 @@ ghost use Rattle.mon_model.specs.Replies.{is_concurrent};
 ghost use Rattle.mon_model.specs.Step.{reply_of};
 ghost use Rattle.mon_model.specs.Tries.{tries, tried_set};
 ghost use Rattle.mon_seq.specs.Sequential.{then_call, then_skip};
-ghost use Rattle.mon_seq.specs.Tables.{AreTables};
+ghost use Rattle.mon_seq.specs.Tables.{AreTables, AreDated};
 
 use crate::board::Board;
 use crate::tables::Tables;
@@ -24,13 +24,13 @@ pub struct Monitor {
 
 impl Model for Monitor {
     ghost use Rattle.mon_seq.specs.Sequential.{Sequential};
-    ghost use Rattle.mon_seq.specs.Tables.{AreTables};
+    ghost use Rattle.mon_seq.specs.Tables.{AreTables, AreDated};
 
     ghost Value = { Sequential };
 
     ghost view = { λ m. record { state = m.board; ticket = m.ticket } };
 
-    ghost invariant = { λ m. AreTables m.board };
+    ghost invariant = { λ m. AreTables m.board × AreDated m.ticket m.board };
 }
 
 impl Monitor {
@@ -129,6 +129,7 @@ impl Monitor {
         ensures flushed { result.flushed ≡ self.state.flushed }
         ensures modes { result.modes ≡ self.state.modes }
         ensures sound { AreTables self.state }
+        ensures dated { AreDated self.ticket self.state }
     {
         let Board {
             config: _,

@@ -8,7 +8,7 @@ ghost use Rattle.mon_seq.specs.Tables.{NamesSlots, AreTables};
 ghost use Rattle.mon_seq.specs.InRange.{IsInRange};
 
 use crate::board::{Board, own_slot_of, own_thread_of};
-use crate::refuse::refuse_early;
+use lock_plan::refuse_early;
 use mon_types::{Call, Mode, Reply};
 
 impl Board {

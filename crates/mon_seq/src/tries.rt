@@ -9,7 +9,7 @@ ghost use Rattle.mon_model.specs.Tries.{free_tries, assign_tries, own_enclave, s
 ghost use Rattle.mon_seq.specs.Tables.{NamesSlots};
 ghost use Rattle.mon_seq.specs.Tried.{AreTries, AreHeldTries};
 
-use crate::refuse::refuse_early;
+use lock_plan::refuse_early;
 use mon_types::{Call, Config, Enclave, Mode, OS_WORD, ObjectId, Region, Tried};
 
 fn tried(enclaves: u8, threads: u16, regions: u64, cells: u16) -> Tried

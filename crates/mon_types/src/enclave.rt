@@ -67,6 +67,14 @@ impl Enclave {
     }
 }
 
+impl Default for Enclave {
+    ghost is_default = { λ e. e ≡ empty_enclave };
+
+    fn default() -> Enclave {
+        Enclave::empty()
+    }
+}
+
 /// What an item of a loading enclave is: a page table of level 2, 1 or 0, a page, or a page whose
 /// place is reserved for a region that the enclave is to accept later.
 #[derive(Clone, Copy, Debug, PartialEq, Eq)]

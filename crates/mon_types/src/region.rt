@@ -16,9 +16,10 @@ pub enum Owner {
 }
 
 /// What a region of memory is. `since` and `at` are tickets.
-#[derive(Clone, Copy, Debug, PartialEq, Eq)]
+#[derive(Clone, Copy, Debug, Default, PartialEq, Eq)]
 pub enum Region {
     /// Nobody's; its words are zeros.
+    #[default]
     Free,
     /// The owner's since ticket `since`.
     Owned { owner: Owner, since: u32 },

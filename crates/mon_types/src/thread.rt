@@ -40,6 +40,14 @@ impl Thread {
     }
 }
 
+impl Default for Thread {
+    ghost is_default = { λ t. t ≡ empty_thread };
+
+    fn default() -> Thread {
+        Thread::empty()
+    }
+}
+
 /// Whom a core runs for: the OS, or this thread of this enclave.
 #[derive(Clone, Copy, Debug, PartialEq, Eq)]
 pub enum Mode {

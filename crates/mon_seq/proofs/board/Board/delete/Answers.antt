@@ -1,4 +1,4 @@
-use Rattle.std.proofs.Common.{◌≡◌, ◌<◌, ℕ, cond, List, [], length, sym, ap, ◌∙◌, rules, arith}
+use Rattle.std.proofs.Common.{◌≡◌, ◌<◌, cond, [], length, sym, ap, ◌∙◌, rules, arith}
 use Rattle.std.proofs.lemmas.List.{get_or_read, with_items_is, places}
 use Rattle.mon_types.specs.Enclaves.{empty_enclave}
 use Rattle.mon_types.specs.declared.enclave.Enclave.{Enclave}

@@ -1,0 +1,48 @@
+//! What a call holds so far.
+
+ghost use Rattle.std.specs.Prelude.{◌≡◌};
+ghost use Rattle.lock_plan.specs.Plan.{held_count};
+ghost use Rattle.lock_plan.specs.Records.{nothing_held};
+
+use arrayvec::ArrayVec;
+use mon_types::{Enclave, Region, Thread};
+
+/// The records of the objects that a call holds so far, kind by kind, in the order in which they were
+/// tried. An enclave slot, a thread slot and a region stand with their numbers. A cell stands without:
+/// a call tries all cells, from that of core 0 on, or its own core's alone.
+#[derive(Debug, Drop)]
+pub struct Held {
+    pub enclaves: ArrayVec<(u8, Enclave), 2>,
+    pub threads: ArrayVec<(u8, Thread), 1>,
+    pub regions: ArrayVec<(u8, Region), 64>,
+    pub cells: ArrayVec<u32, 16>,
+}
+
+impl Held {
+    /// Nothing is held.
+    pub fn new() -> Held
+        ensures { result ≡ nothing_held }
+    {
+        Held {
+            enclaves: ArrayVec::new(),
+            threads: ArrayVec::new(),
+            regions: ArrayVec::new(),
+            cells: ArrayVec::new(),
+        }
+    }
+
+    /// How many objects are held.
+    pub fn count(&self) -> usize
+        ensures { result ≡ held_count self.now }
+    {
+        self.enclaves.len() + self.threads.len() + self.regions.len() + self.cells.len()
+    }
+}
+
+impl Default for Held {
+    ghost is_default = { λ h. h ≡ nothing_held };
+
+    fn default() -> Held {
+        Held::new()
+    }
+}
