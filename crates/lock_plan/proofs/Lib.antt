@@ -1,4 +1,3 @@
-pub mod Limits
 pub mod Places
 pub mod Room
 pub mod Order

@@ -30,7 +30,7 @@ use Rattle.lock_plan.specs.Records.{nothing_held, and_records}
 use Rattle.lock_plan.specs.Laws.{TriesAscend}
 use Rattle.lock_plan.specs.EveryPlan.{settled}
 use Rattle.lock_plan.specs.Objects.{HasObject, IsCaller, IsBefore, AreInOrder}
-use Rattle.lock_plan.proofs.Limits.{few_cores, few_regions}
+use Rattle.mon_types.specs.Limits.{few_cores, few_regions}
 
 -- objects of the machine, with rising numbers, from lo on and below hi
 abbrev pub Rises : Shape → ℕ → ℕ → List ObjectId → Type 0

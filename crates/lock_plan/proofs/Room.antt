@@ -21,7 +21,7 @@ use Rattle.lock_plan.specs.declared.held.Held.{Held}
 use Rattle.lock_plan.specs.Plan.{planned}
 use Rattle.lock_plan.specs.Records.{records_of, HasRoom, LeavesRoom}
 use Rattle.lock_plan.specs.EveryPlan.{tries_held, is_next}
-use Rattle.lock_plan.proofs.Limits.{few_cores, few_regions}
+use Rattle.mon_types.specs.Limits.{few_cores, few_regions}
 
 -- no more records than there is room for
 pub record Fits (h : Held) : Type 0 where

@@ -194,7 +194,7 @@ fn of_delete(regions: u8, e: u64, held: &Held, n: usize) -> Option<ObjectId>
 
 /// The object at place `n` among those that a call tries, made by this core in this mode, as far as the
 /// records held so far tell them.
-#[tactic(auto, using(crate::proofs::Limits::few_regions, crate::proofs::Limits::few_pages))]
+#[tactic(auto, using(mon_types::specs::Limits::few_regions, mon_types::specs::Limits::few_pages))]
 fn nth_of_plan(
     config: &Config,
     core: u8,

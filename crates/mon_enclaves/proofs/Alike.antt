@@ -13,7 +13,7 @@ use Rattle.mon_model.specs.Loading.{is_there_for, is_table_1, is_table_0, is_lea
 use Rattle.mon_model.specs.EnclaveCalls.{done_if, is_os_owned, table_fits, leaf_fits, load_table_reply, load_page_reply, reserve_reply}
 use Rattle.mon_enclaves.specs.Entries.{first_frame, frame_of, leads_to_table, leaf_path, table_path, words_fit, table_reply, page_reply, reserved_reply}
 use Rattle.mon_enclaves.specs.FromItems.{StandInPages, table_1_for, table_0_for, leaf_for, table_entry, leaf_entry, below, table_words, leaf_words}
-use Rattle.mon_enclaves.proofs.Limits.{few_pages}
+use Rattle.mon_types.specs.Limits.{few_pages}
 
 -- something is found exactly where a test passes
 is_some-find : {X : Type 0} (p : X → Bool) (xs : List X) → is_some (find p xs) ≡ list_any p xs

@@ -14,7 +14,7 @@ use crate::replies::reply_if;
 use mon_types::{Config, Enclave, Owner, Region, Reply, Stage};
 
 /// Whether the page lies in a region of the enclave.
-#[tactic(auto, using(crate::proofs::Limits::few_regions))]
+#[tactic(auto, using(mon_types::specs::Limits::few_regions))]
 fn owns_page(config: &Config, enclave: &Enclave, page: u16) -> bool
     requires { page < page_total config.now }
     ensures owned { result ≡ has_bit enclave.now.regions (region_of_page config.now page) }

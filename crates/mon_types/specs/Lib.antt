@@ -6,4 +6,4 @@ pub mod Enclaves
 pub mod Threads
 pub mod Objects
 pub mod Calls
-pub mod Built
+pub mod Limits

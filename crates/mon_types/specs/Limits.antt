@@ -1,5 +1,6 @@
--- How large a machine can be.
-use Rattle.std.proofs.Common.{◌≡◌, ◌≤◌, true, arith}
+-- How large a machine can be, for proofs of the crates above. This project's own.
+use Rattle.std.specs.Prelude.{◌≡◌, ◌≤◌, true}
+use Rattle.std.proofs.Common.{arith}
 use Rattle.std.proofs.lemmas.Bool.Decides.{nat_tests}
 use Rattle.std.proofs.Math.Nat.{mul-le-mul}
 use Rattle.mon_types.specs.Shape.{Shape, is_shape, page_total}
