@@ -12,6 +12,7 @@ use Rattle.mon_model.specs.State.{State, start}
 use Rattle.mon_model.specs.Early.{os_word}
 use Rattle.mon_model.specs.Measure.{Item, Table, Page, Thread, Init, measure_created, measure_with}
 use Rattle.mon_model.specs.Step.{monitor_step}
+use Rattle.mon_model.specs.Measured.{Answered, items_of}
 use Rattle.mon_model.specs.Tries.{tries, tried_set}
 
 -- what a run of calls gave: the reply to each, the objects that each tried, and the state at the end
@@ -126,10 +127,23 @@ abbrev pub measure_with_all : List ℕ → List Item → List ℕ
 measure_with_all words [] = words
 measure_with_all words (item ∷ items) = measure_with_all (measure_with words item) items
 
--- what each of these enclaves measures, where the page has this digest
+-- what is loaded into each of these enclaves, where the page has this digest
+abbrev pub small_loads : List ℕ → List Item
+small_loads digest = Table 0 2 ∷ Table 65536 1 ∷ Table 65536 0 ∷ Page 65536 5 digest ∷ Thread 65536 0 ∷ Init ∷ []
+
+-- what each of them measures
 abbrev pub small_measure : List ℕ → List ℕ
-small_measure digest =
-    measure_with_all (measure_created 65536 16384) (Table 0 2 ∷ Table 65536 1 ∷ Table 65536 0 ∷ Page 65536 5 digest ∷ Thread 65536 0 ∷ Init ∷ [])
+small_measure digest = measure_with_all (measure_created 65536 16384) (small_loads digest)
+
+-- calls with their answers
+abbrev pub answered : List ℕ → List Call → List Reply → List Answered
+answered digest [] replies = []
+answered digest (call ∷ rest) [] = []
+answered digest (call ∷ rest) (reply ∷ replies) = record { call = call; reply = reply; digest = digest } ∷ answered digest rest replies
+
+-- the items of a slot in a run of these calls
+abbrev pub run_items : List ℕ → Shape → List Call → ℕ → List Item
+run_items digest shape call_list e = items_of (answered digest call_list (run digest shape call_list).replies) e
 
 -- ---- what else may be done with it
 

@@ -7,8 +7,9 @@ ghost use Rattle.mon_types.specs.declared.region.Region.TheVariants as regions;
 ghost use Rattle.mon_types.specs.declared.reply.Reply.TheVariants as replies;
 ghost use Rattle.mon_model.specs.State.{region_at, enclave_at};
 ghost use Rattle.mon_model.specs.Replies.{done};
+ghost use Rattle.mon_model.specs.Measure.{Create};
 ghost use Rattle.mon_model.specs.Tries.{tried_set};
-ghost use Rattle.mon_model.specs.Examples.{run, sixteen, e0, r1, r2, r3, r4, r5, given, loaded, finished, twins, small_measure, delete_blocks_calls, page_below_next_calls, init_without_thread_calls, create_overflow_calls};
+ghost use Rattle.mon_model.specs.Examples.{run, sixteen, e0, r1, r2, r3, r4, r5, given, loaded, finished, twins, small_measure, small_loads, run_items, delete_blocks_calls, page_below_next_calls, init_without_thread_calls, create_overflow_calls};
 
 /// A range that would end past the last address is refused with nothing tried.
 pub fn create_overflow()
@@ -21,6 +22,7 @@ pub fn loads_an_enclave()
     ensures on_plain { (digest : List ℕ) → (run digest (plain 1) finished).replies ≡ replicate 20 done }
     ensures on_sixteen { (digest : List ℕ) → (run digest sixteen finished).replies ≡ replicate 20 done }
     ensures measure { (digest : List ℕ) → (enclave_at (run digest sixteen finished).last 0).measure ≡ small_measure digest }
+    ensures items { (digest : List ℕ) → run_items digest sixteen finished 0 ≡ Create 65536 16384 ∷ small_loads digest }
 {}
 
 /// A second enclave with the same content in another slot and in other regions has the same
@@ -29,14 +31,16 @@ pub fn twin_enclaves()
     ensures replies { (digest : List ℕ) → (run digest sixteen twins).replies ≡ replicate 40 done }
     ensures first { (digest : List ℕ) → (enclave_at (run digest sixteen twins).last 0).measure ≡ small_measure digest }
     ensures second { (digest : List ℕ) → (enclave_at (run digest sixteen twins).last 1).measure ≡ small_measure digest }
+    ensures items { (digest : List ℕ) → run_items digest sixteen twins 1 ≡ Create 65536 16384 ∷ small_loads digest }
 {}
 
 /// A delete blocks the enclave's regions; a new enclave of the slot owns none of them, and so cannot
-/// load a table there.
+/// load a table there. Its items begin anew, and the refused load adds none.
 pub fn delete_blocks()
     ensures replies { (digest : List ℕ) → (run digest sixteen delete_blocks_calls).replies ≡ replicate 16 done ++ replies.InvalidState ∷ [] }
     ensures tried { (digest : List ℕ) → drop 14 (run digest sixteen delete_blocks_calls).tried ≡ tried_set (e0 ∷ r2 ∷ r3 ∷ r4 ∷ r5 ∷ []) ∷ tried_set (e0 ∷ []) ∷ tried_set (e0 ∷ []) ∷ [] }
     ensures region { (digest : List ℕ) → region_at (run digest sixteen delete_blocks_calls).last 2 ≡ regions.Blocked (owners.Enclave 0) 11 15 }
+    ensures items { (digest : List ℕ) → run_items digest sixteen delete_blocks_calls 0 ≡ Create 65536 16384 ∷ [] }
     ensures on_plain { (digest : List ℕ) → (run digest (plain 1) delete_blocks_calls).replies ≡ replicate 16 done ++ replies.InvalidState ∷ [] }
 {}
 

@@ -6,8 +6,9 @@ ghost use Rattle.mon_types.specs.declared.region.Region.TheVariants as regions;
 ghost use Rattle.mon_types.specs.declared.reply.Reply.TheVariants as replies;
 ghost use Rattle.mon_model.specs.State.{region_at};
 ghost use Rattle.mon_model.specs.Replies.{done, told_four, told_eight};
+ghost use Rattle.mon_model.specs.Measure.{Create, Table, Page, Thread, Init};
 ghost use Rattle.mon_model.specs.Tries.{tried_set};
-ghost use Rattle.mon_model.specs.Examples.{run, sixteen, e0, t0, c0, r12, small_measure, offered, offer_and_accept_calls, offer_withdrawn_calls, reserved_page_calls};
+ghost use Rattle.mon_model.specs.Examples.{run, sixteen, e0, t0, c0, r12, small_measure, run_items, offered, offer_and_accept_calls, offer_withdrawn_calls, reserved_page_calls};
 
 /// The OS offers a region to an enclave that runs, which accepts it once and then owns it; its region
 /// set is then that of regions 2 to 5 and 12.
@@ -26,9 +27,10 @@ pub fn offer_withdrawn()
 {}
 
 /// A page is reserved in a region that the enclave does not own yet, and accepts once it runs: every
-/// call is Ok.
+/// call is Ok. It is measured as a table of level 8 + 3.
 pub fn reserved_page()
     ensures replies { (digest : List ℕ) → (run digest sixteen reserved_page_calls).replies ≡ replicate 30 done }
     ensures tried { (digest : List ℕ) → drop 18 (run digest sixteen reserved_page_calls).tried ≡ tried_set (e0 ∷ []) ∷ tried_set (e0 ∷ t0 ∷ []) ∷ tried_set (e0 ∷ []) ∷ tried_set (e0 ∷ t0 ∷ []) ∷ tried_set (t0 ∷ []) ∷ tried_set (r12 ∷ []) ∷ tried_set (c0 ∷ []) ∷ tried_set (r12 ∷ c0 ∷ []) ∷ tried_set (e0 ∷ r12 ∷ []) ∷ tried_set (e0 ∷ t0 ∷ []) ∷ tried_set (e0 ∷ r12 ∷ []) ∷ tried_set (t0 ∷ []) ∷ [] }
     ensures region { (digest : List ℕ) → region_at (run digest sixteen reserved_page_calls).last 12 ≡ regions.Owned (owners.Enclave 0) 29 }
+    ensures items { (digest : List ℕ) → run_items digest sixteen reserved_page_calls 0 ≡ Create 65536 16384 ∷ Table 0 2 ∷ Table 65536 1 ∷ Table 65536 0 ∷ Page 65536 5 digest ∷ Table 69632 11 ∷ Thread 65536 0 ∷ Init ∷ [] }
 {}

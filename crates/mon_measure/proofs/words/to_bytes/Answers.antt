@@ -1,4 +1,4 @@
-use Rattle.mon_measure.proofs.Back.{to_words-to_bytes}
+use Rattle.mon_model.specs.MeasureWords.{to_words-to_bytes}
 use Rattle.mon_measure.proofs.words.to_bytes.Goals as goal
 
 pub returns-clause-back : goal.returns-clause-back

@@ -1,4 +1,4 @@
-use Rattle.mon_measure.proofs.Back.{to_bytes-to_words}
+use Rattle.mon_model.specs.MeasureWords.{to_bytes-to_words}
 use Rattle.mon_measure.proofs.words.to_words.Goals as goal
 
 pub returns-clause-back : goal.returns-clause-back
