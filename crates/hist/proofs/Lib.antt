@@ -5,3 +5,4 @@ pub mod Walked
 pub mod Ascending
 pub mod Periods
 pub mod Lawful
+pub mod Measured

@@ -6,4 +6,5 @@ pub mod Period
 pub mod Busy
 pub mod Walk
 pub mod Rows
+pub mod Measured
 pub mod Laws

@@ -14,7 +14,7 @@ mod tests;
 
 pub use event::{Entry, Event, PageInput, Why};
 pub use finished::Finished;
-pub use laws::{legal_logs_merge, never_busy_alone};
+pub use laws::{legal_logs_merge, measured_by_history, never_busy_alone};
 pub use log::Log;
 pub use merge::Merge;
 pub use period::{Period, period_of};
