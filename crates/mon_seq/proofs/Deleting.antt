@@ -11,7 +11,7 @@ use Rattle.mon_model.specs.EnclaveCalls.{deleted}
 use Rattle.mon_model.specs.Step.{with_deleted, regions_of}
 use Rattle.mon_seq.specs.Deleted.{deleted_in}
 
-deleted_in-append : (table : List Region) (rs qs : List ℕ) (k : ℕ) → deleted_in table (rs ++ qs) k ≡ deleted_in (deleted_in table rs k) qs k
+pub deleted_in-append : (table : List Region) (rs qs : List ℕ) (k : ℕ) → deleted_in table (rs ++ qs) k ≡ deleted_in (deleted_in table rs k) qs k
 deleted_in-append table [] qs k = refl
 deleted_in-append table (r ∷ rs) qs k = deleted_in-append (slice_set table r (deleted (slice_index_or table r regions.Free) k)) rs qs k
 

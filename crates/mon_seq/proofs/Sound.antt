@@ -29,19 +29,19 @@ use Rattle.mon_model.specs.EnclaveCalls.{done_if, init_reply, is_os_owned, leaf_
 use Rattle.mon_model.specs.Step.{own_slot, held_reply, effect, with_item, with_deleted, regions_of, without_own_region}
 use Rattle.mon_enclaves.specs.FromItems.{StandInPages}
 use Rattle.mon_seq.specs.Tables.{NamesSlots, IsRooted, IsSlot, AreTables}
-use Rattle.mon_seq.specs.InRange.{IsInRange}
+use Rattle.mon_model.specs.InRange.{IsInRange}
 
 -- ---- which page is taken
 
-done-if : (b : Bool) → is_done (done_if b) ≡ true → b ≡ true
+pub done-if : (b : Bool) → is_done (done_if b) ≡ true → b ≡ true
 done-if true h = refl
 done-if false h = h
 
-first : (a b : Bool) → (a && b) ≡ true → a ≡ true
+pub first : (a b : Bool) → (a && b) ≡ true → a ≡ true
 first true b h = refl
 first false b h = h
 
-second : (a b : Bool) → (a && b) ≡ true → b ≡ true
+pub second : (a b : Bool) → (a && b) ≡ true → b ≡ true
 second true b h = h
 second false b h = cc
 
@@ -50,21 +50,27 @@ next_page enclave page h =
     let le : nat_le enclave.next_page page ≡ true = second (is_loading enclave.stage) (nat_le enclave.next_page page) h in
     grind (arith, nat_tests)
 
-loading : (enclave : Enclave) (page : ℕ) → is_next_page enclave page ≡ true → is_loading enclave.stage ≡ true
+pub loading : (enclave : Enclave) (page : ℕ) → is_next_page enclave page ≡ true → is_loading enclave.stage ≡ true
 loading enclave page h = first (is_loading enclave.stage) (nat_le enclave.next_page page) h
 
--- a page that a call loads is not below the next one
-table_next : (shape : Shape) (enclave : Enclave) (items : List Loaded) (va level page : ℕ) → is_done (load_table_reply shape enclave items va level page) ≡ true → is_next_page enclave page ≡ true
-table_next shape enclave items va level page h = first _ _ (first _ _ (first _ _ (done-if _ h)))
+-- a page that a call fills, or makes a table, lies in a region of the enclave and is not below the next one
+pub table_taken : (shape : Shape) (enclave : Enclave) (items : List Loaded) (va level page : ℕ) → is_done (load_table_reply shape enclave items va level page) ≡ true → takes_page shape enclave page ≡ true
+table_taken shape enclave items va level page h = first _ _ (first _ _ (done-if _ h))
 
-page_next : (shape : Shape) (enclave : Enclave) (items : List Loaded) (source : Region) (va page : ℕ) → is_done (load_page_reply shape enclave items source va page) ≡ true → is_next_page enclave page ≡ true
-page_next shape enclave items source va page h = first _ _ (first _ _ (taken (takes_page shape enclave page && leaf_fits enclave va) (cond (is_os_owned source) (done_if (has_place_for_leaf items va)) replies.AccessDenied) h))
+pub page_taken : (shape : Shape) (enclave : Enclave) (items : List Loaded) (source : Region) (va page : ℕ) → is_done (load_page_reply shape enclave items source va page) ≡ true → takes_page shape enclave page ≡ true
+page_taken shape enclave items source va page h = first _ _ (taken (takes_page shape enclave page && leaf_fits enclave va) (cond (is_os_owned source) (done_if (has_place_for_leaf items va)) replies.AccessDenied) h)
   where
     taken : (b : Bool) (x : Reply) → is_done (cond b x replies.InvalidState) ≡ true → b ≡ true
     taken true x h = refl
     taken false x h = h
 
-reserve_next : (shape : Shape) (enclave : Enclave) (items : List Loaded) (va page : ℕ) → is_done (reserve_reply shape enclave items va page) ≡ true → is_next_page enclave page ≡ true
+table_next : (shape : Shape) (enclave : Enclave) (items : List Loaded) (va level page : ℕ) → is_done (load_table_reply shape enclave items va level page) ≡ true → is_next_page enclave page ≡ true
+table_next shape enclave items va level page h = first _ _ (table_taken shape enclave items va level page h)
+
+page_next : (shape : Shape) (enclave : Enclave) (items : List Loaded) (source : Region) (va page : ℕ) → is_done (load_page_reply shape enclave items source va page) ≡ true → is_next_page enclave page ≡ true
+page_next shape enclave items source va page h = first _ _ (page_taken shape enclave items source va page h)
+
+pub reserve_next : (shape : Shape) (enclave : Enclave) (items : List Loaded) (va page : ℕ) → is_done (reserve_reply shape enclave items va page) ≡ true → is_next_page enclave page ≡ true
 reserve_next shape enclave items va page h = first _ _ (first _ _ (first _ _ (done-if _ h)))
 
 pub table_takes : (shape : Shape) (enclave : Enclave) (items : List Loaded) (va level page : ℕ) → is_done (load_table_reply shape enclave items va level page) ≡ true → enclave.next_page ≤ page
@@ -242,11 +248,11 @@ item_sound s e x kind va page p q le next load h =
       root = loading_rooted x load;
     }) h
 
-own_small : (mode : Mode) → NamesSlots mode → own_slot mode < 8
+pub own_small : (mode : Mode) → NamesSlots mode → own_slot mode < 8
 own_small modes.Os n = omega arith
 own_small (modes.Inside e t) n = n.0
 
-not_os : (to : ℕ) → ((to ≡ os_word → ⊥) → to < 8) → (nat_eq to os_word) ≡ false → to < 8
+pub not_os : (to : ℕ) → ((to ≡ os_word → ⊥) → to < 8) → (nat_eq to os_word) ≡ false → to < 8
 not_os to h f = h (eqb-false to os_word f)
 
 -- ---- every call
@@ -289,7 +295,7 @@ after_sound s new core call digest k reply n a is left h =
 
 -- ---- the start
 
-same_everywhere : {X : Type 0} (n i : ℕ) (a : X) → get_or (replicate n a) i a ≡ a
+pub same_everywhere : {X : Type 0} (n i : ℕ) (a : X) → get_or (replicate n a) i a ≡ a
 same_everywhere n i a =
     elim (leb_tells n i) [
       | inl (t, past) ↦ get_or_past (replicate n a) i a (omega (arith, length-replicate n a))

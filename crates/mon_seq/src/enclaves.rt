@@ -89,7 +89,7 @@ impl Board {
     }
 
     /// delete of the enclave in slot e.
-    #[tactic(auto, using(crate::proofs::Limits::few_regions, crate::proofs::Deleting::with_deleted_in))]
+    #[tactic(auto, using(mon_types::specs::Limits::few_regions, crate::proofs::Deleting::with_deleted_in))]
     pub fn delete(&mut self, call: &Call, ticket: u32, e: u64) -> Reply
         requires tables { AreTables self.old }
         requires e { e < 8 }

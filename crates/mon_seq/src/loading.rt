@@ -84,7 +84,7 @@ fn reply_to_reserve(config: &Config, enclave: &Enclave, items: &Loads, va: u64, 
 
 impl Board {
     /// load_table of this level for va into the page, of the enclave in slot e.
-    #[tactic(auto, using(crate::proofs::Limits::few_pages))]
+    #[tactic(auto, using(mon_types::specs::Limits::few_pages))]
     pub fn load_table(
         &mut self,
         call: &Call,
@@ -117,7 +117,7 @@ impl Board {
     }
 
     /// load_page for va into the page, of the enclave in slot e. `digest` is that of page `src`.
-    #[tactic(auto, using(crate::proofs::Limits::few_pages))]
+    #[tactic(auto, using(mon_types::specs::Limits::few_pages))]
     pub fn load_page(
         &mut self,
         call: &Call,
@@ -153,7 +153,7 @@ impl Board {
     }
 
     /// reserve of the page for va, of the enclave in slot e.
-    #[tactic(auto, using(crate::proofs::Limits::few_pages))]
+    #[tactic(auto, using(mon_types::specs::Limits::few_pages))]
     pub fn reserve(
         &mut self,
         call: &Call,

@@ -1,12 +1,13 @@
 //! The sequential monitor.
 
-ghost use Rattle.std.specs.Prelude.{◌≡◌, ◌<◌, ◌^◌, ◌-◌, false, IfOk};
+ghost use Rattle.std.specs.Prelude.{◌≡◌, ◌<◌, ◌^◌, ◌-◌, false, length, IfOk};
 ghost use Rattle.mon_model.specs.State.{start};
 ghost use Rattle.mon_model.specs.Replies.{is_concurrent};
 ghost use Rattle.mon_model.specs.Step.{reply_of};
 ghost use Rattle.mon_model.specs.Tries.{tries, tried_set};
 ghost use Rattle.mon_seq.specs.Sequential.{then_call, then_skip};
 ghost use Rattle.mon_seq.specs.Tables.{AreTables, AreDated};
+ghost use Rattle.mon_seq.specs.Facts.{SetsAreOwned, OwnersAreThere, BlockedAreOlder, EmptyAreBlank, InitializedAreRooted, ThreadsAreCounted, InsideAreRunning, RunningAreInside, InsideAreAlone, RunningAreInitialized, LoadedArePlaced, FactsHold};
 
 use crate::board::Board;
 use crate::tables::Tables;
@@ -25,12 +26,13 @@ pub struct Monitor {
 impl Model for Monitor {
     ghost use Rattle.mon_seq.specs.Sequential.{Sequential};
     ghost use Rattle.mon_seq.specs.Tables.{AreTables, AreDated};
+    ghost use Rattle.mon_seq.specs.Facts.{FactsHold};
 
     ghost Value = { Sequential };
 
     ghost view = { λ m. record { state = m.board; ticket = m.ticket } };
 
-    ghost invariant = { λ m. AreTables m.board × AreDated m.ticket m.board };
+    ghost invariant = { λ m. AreTables m.board × AreDated m.ticket m.board × FactsHold m.board };
 }
 
 impl Monitor {
@@ -88,37 +90,61 @@ impl Monitor {
 
     /// Each region, by its number.
     pub fn regions(&self) -> &[Region]
-        ensures { result.now ≡ self.now.state.regions }
+        ensures list { result.now ≡ self.now.state.regions }
+        ensures count { length result.now ≡ self.now.state.shape.regions }
     {
         &self.board.regions
     }
 
     /// Each enclave slot, by its number.
     pub fn enclaves(&self) -> &[Enclave]
-        ensures { result.now ≡ self.now.state.enclaves }
+        ensures list { result.now ≡ self.now.state.enclaves }
+        ensures count { length result.now ≡ 8 }
     {
         &self.board.enclaves
     }
 
     /// Each thread slot, by its number.
     pub fn threads(&self) -> &[Thread]
-        ensures { result.now ≡ self.now.state.threads }
+        ensures list { result.now ≡ self.now.state.threads }
+        ensures count { length result.now ≡ 16 }
     {
         &self.board.threads
     }
 
     /// The ticket of each core's last flush.
     pub fn flushed(&self) -> &[u32]
-        ensures { result.now ≡ self.now.state.flushed }
+        ensures list { result.now ≡ self.now.state.flushed }
+        ensures count { length result.now ≡ self.now.state.shape.cores }
     {
         &self.board.flushed
     }
 
     /// For whom each core runs.
     pub fn modes(&self) -> &[Mode]
-        ensures { result.now ≡ self.now.state.modes }
+        ensures list { result.now ≡ self.now.state.modes }
+        ensures count { length result.now ≡ self.now.state.shape.cores }
     {
         &self.board.modes
+    }
+
+    /// What the monitor keeps, whatever calls were made. It does nothing: who calls it may cite these
+    /// facts of the state.
+    pub fn facts(&self)
+        ensures sets { SetsAreOwned self.now.state }
+        ensures owners { OwnersAreThere self.now.state }
+        ensures blocked { BlockedAreOlder self.now.state }
+        ensures blank { EmptyAreBlank self.now.state }
+        ensures roots { InitializedAreRooted self.now.state }
+        ensures counts { ThreadsAreCounted self.now.state }
+        ensures inside { InsideAreRunning self.now.state }
+        ensures running { RunningAreInside self.now.state }
+        ensures alone { InsideAreAlone self.now.state }
+        ensures initialized { RunningAreInitialized self.now.state }
+        ensures placed { LoadedArePlaced self.now.state }
+    {
+        // A look at a field is what lets a proof know what holds of each value of this type.
+        let _ = &self.board;
     }
 
     /// The tables. Takes no memory.
@@ -130,6 +156,7 @@ impl Monitor {
         ensures modes { result.modes ≡ self.state.modes }
         ensures sound { AreTables self.state }
         ensures dated { AreDated self.ticket self.state }
+        ensures facts { FactsHold self.state }
     {
         let Board {
             config: _,

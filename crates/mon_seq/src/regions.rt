@@ -45,7 +45,7 @@ fn decide_give(enclave: &Enclave, region: &Region) -> Reply
 
 impl Board {
     /// block of region r.
-    #[tactic(auto, using(crate::proofs::Limits::few_regions))]
+    #[tactic(auto, using(mon_types::specs::Limits::few_regions))]
     pub fn block(&mut self, call: &Call, mode: Mode, ticket: u32, r: u64) -> Reply
         requires tables { AreTables self.old }
         requires call { call.now ≡ Call.Block r }
@@ -99,7 +99,7 @@ impl Board {
         }
     }
 
-    #[tactic(auto, using(crate::proofs::Limits::few_regions))]
+    #[tactic(auto, using(mon_types::specs::Limits::few_regions))]
     fn assign_to_os(&mut self, call: &Call, ticket: u32, r: u64) -> Reply
         requires tables { AreTables self.old }
         requires call { call.now ≡ Call.Assign r OS_WORD }
@@ -115,7 +115,7 @@ impl Board {
         reply
     }
 
-    #[tactic(auto, using(crate::proofs::Limits::few_regions))]
+    #[tactic(auto, using(mon_types::specs::Limits::few_regions))]
     fn assign_to_enclave(&mut self, call: &Call, ticket: u32, r: u64, to: u64) -> Reply
         requires tables { AreTables self.old }
         requires call { call.now ≡ Call.Assign r to }
@@ -154,7 +154,7 @@ impl Board {
     }
 
     /// accept_region of region r, by the enclave in slot `own`.
-    #[tactic(auto, using(crate::proofs::Limits::few_regions))]
+    #[tactic(auto, using(mon_types::specs::Limits::few_regions))]
     pub fn accept_region(&mut self, call: &Call, own: u8, ticket: u32, r: u64) -> Reply
         requires tables { AreTables self.old }
         requires call { call.now ≡ Call.AcceptRegion r }

@@ -5,7 +5,7 @@ ghost use Rattle.mon_model.specs.State.{mode_of};
 ghost use Rattle.mon_model.specs.Replies.{is_done};
 ghost use Rattle.mon_model.specs.Step.{held_reply, effect, reply_of, after};
 ghost use Rattle.mon_seq.specs.Tables.{NamesSlots, AreTables};
-ghost use Rattle.mon_seq.specs.InRange.{IsInRange};
+ghost use Rattle.mon_model.specs.InRange.{IsInRange};
 
 use crate::board::{Board, own_slot_of, own_thread_of};
 use lock_plan::refuse_early;

@@ -168,7 +168,7 @@ pub fn tried_by(
 }
 
 /// The same of a call that is not refused early.
-#[tactic(auto, using(crate::proofs::Limits::few_cores, crate::proofs::Limits::few_regions, crate::proofs::Limits::few_pages))]
+#[tactic(auto, using(mon_types::specs::Limits::few_cores, mon_types::specs::Limits::few_regions, mon_types::specs::Limits::few_pages))]
 fn held_tried(
     config: &Config,
     core: u8,

@@ -1,7 +1,10 @@
 //! Lists of calls and skipped tickets.
 
 ghost use Rattle.std.specs.Prelude.{◌≡◌, ◌+◌, ◌<◌, ◌≤◌, ◌-◌, ◌^◌, length, All};
-ghost use Rattle.mon_seq.specs.Turns.{IsTurn, then_turn, then_turns};
+ghost use Rattle.mon_types.specs.Shape.{Shape};
+ghost use Rattle.mon_model.specs.State.{start};
+ghost use Rattle.mon_model.specs.Measured.{IsMeasured};
+ghost use Rattle.mon_seq.specs.Turns.{IsTurn, then_turn, then_turns, answers};
 
 use crate::monitor::Monitor;
 use mon_types::Call;
@@ -19,11 +22,13 @@ pub enum Turn {
 }
 
 /// Takes the turns one after the other: the monitor is then what folding the single steps over the list
-/// gives.
+/// gives. Where it was at the start of a machine, each enclave slot that is not Empty has the
+/// measurement of its items in these calls.
 pub fn take_turns(monitor: &mut Monitor, turns: &[Turn])
     requires turns { All (IsTurn monitor.old.state.shape) turns.now }
     requires tickets { monitor.old.ticket + length turns.now < 2 ^ 32 }
-    ensures { monitor.new ≡ then_turns monitor.old turns.now }
+    ensures after { monitor.new ≡ then_turns monitor.old turns.now }
+    ensures measured { (shape : Shape) → monitor.old.state ≡ start shape → IsMeasured (answers monitor.old turns.now) monitor.new.state }
 {
     for turn in turns {
         take_turn(monitor, turn);

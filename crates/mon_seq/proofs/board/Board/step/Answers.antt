@@ -2,8 +2,7 @@ use Rattle.std.proofs.Common.{◌≡◌, ◌<◌, length, sym, ap, subst, arith}
 use Rattle.mon_types.specs.Shape.{Shape}
 use Rattle.mon_types.specs.declared.thread.Mode.TheVariants as modes
 use Rattle.mon_model.specs.State.{State}
-use Rattle.mon_seq.specs.InRange.{IsInRange}
-use Rattle.mon_seq.proofs.Arguments.{not_refused}
+use Rattle.mon_model.specs.InRange.{IsInRange, not_refused}
 use Rattle.mon_seq.proofs.Sound.{after_sound}
 use Rattle.mon_seq.proofs.board.Board.step.Goals as goal
 
