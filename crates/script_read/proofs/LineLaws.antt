@@ -1,31 +1,32 @@
 -- A line is read as what it stands for in the grammar, and as nothing else.
-use Rattle.std.proofs.Common.{◌≡◌, ℕ, suc, ◌+◌, ◌≤◌, ◌⊎◌, Bool, true, ◌&&◌, ltb, List, [], ◌∷◌, ◌++◌, length, Option, Some, None, Result, Ok, Err, refl, sym, ap, subst, ◌∙◌, arith, inl, inr}
+use Rattle.std.proofs.Common.{◌≡◌, ℕ, suc, ◌+◌, ◌≤◌, ◌⊎◌, Bool, true, false, ◌&&◌, ltb, List, [], ◌∷◌, ◌++◌, length, Option, Some, None, Result, Ok, Err, refl, sym, ap, subst, ◌∙◌, arith, inl, inr}
 use Rattle.std.specs.Prelude.{codes}
 use Rattle.std.specs.List.{list_all}
 use Rattle.std.specs.Char.{is_ascii}
 use Rattle.std.specs.Str.{bytes_eq}
-use Rattle.std.specs.Option.{option_map}
+use Rattle.std.specs.Option.{option_map, ok_or}
 use Rattle.std.proofs.lemmas.Bool.{cases_Bool, and_parts, and_from, ltb-false, le-ltb}
 use Rattle.std.proofs.lemmas.Bool.Decides.{nat_tests}
 use Rattle.std.proofs.lemmas.Option.{option_and_then_some}
 use Rattle.std.proofs.lemmas.List.Folds.{list_all-append}
 use Rattle.std.proofs.lemmas.Slice.Eq.{bytes_eq-Decides}
-use Rattle.mon_types.specs.Calls.{call_name, call_args}
+use Rattle.mon_types.specs.Calls.{call_name, call_args, call_of_registers}
 use Rattle.mon_types.specs.declared.call.Call.{Call}
 use Rattle.mon_types.specs.declared.script.Line.{Line}
 use Rattle.mon_types.specs.declared.script.Line.TheVariants as lines
 use Rattle.script_read.specs.declared.form.Form.{Form}
+use Rattle.script_read.specs.declared.form.Form.TheVariants as forms
 use Rattle.script_read.specs.declared.fault.LineKind.{LineKind}
 use Rattle.script_read.specs.declared.fault.LineKind.TheVariants as kinds
 use Rattle.script_read.specs.declared.fault.ScriptFault.TheVariants as faults
 use Rattle.script_read.specs.Text.{is_blank, before_comment, words_of}
 use Rattle.script_read.specs.Numbers.{IsDigit, AreDigits, IsDecimal, IsHexadecimal, IsNumber, with_bytes, number_of}
-use Rattle.script_read.specs.Forms.{os_word, arity, takes_os, form_call, form_named, is_later_word}
-use Rattle.script_read.specs.Grammar.{IsFirstWord, AreWords, is_owner_place, IsArgument, AreArguments, IsCallLine, StandsFor, IsLine}
-use Rattle.script_read.specs.Reading.{argument_of, arguments_of, with_arguments, call_with, call_in, call_of, at_line, line_of_words, line_of}
+use Rattle.script_read.specs.Forms.{os_word, form_name, least, most, takes_os, form_line, form_named, is_later_word}
+use Rattle.script_read.specs.Grammar.{IsFirstWord, AreWords, is_owner_place, IsArgument, AreArguments, AreNumbers, IsCallLine, IsEcallLine, IsPcLine, IsRegLine, StandsFor, IsLine}
+use Rattle.script_read.specs.Reading.{argument_of, arguments_of, with_zeros, line_with, form_read, at_line, line_in, line_of_words, line_of}
 use Rattle.script_read.proofs.NumberLaws.{number_is, number_found}
 use Rattle.script_read.proofs.TextLaws.{words_are, words_found, front_is, has_comment}
-use Rattle.script_read.proofs.FormLaws.{name_is, built_is, owner_is, args_are, named_is, HasForm, has_form}
+use Rattle.script_read.proofs.FormLaws.{HoldsForm, named_is, named_holds, has_form, ecall_line, ecall_word, tick_word, pc_word, reg_word, pc_is, pc_found, reg_is, reg_found}
 
 -- ---- arguments
 
@@ -51,12 +52,16 @@ os_argument : (form : Form) (place : ℕ) (word : List ℕ) (n : ℕ) → takes_
 os_argument form place word n t w e =
     rw (and_from (takes_os form place) (bytes_eq word (codes "os")) t ((bytes_eq-Decides word (codes "os")).1 w)) (ap (λ (x : ℕ). Some x) (sym e))
 
-argument_is : (call : Call) (form : Form) (place : ℕ) (word : List ℕ) (n : ℕ) → is_owner_place call place ≡ takes_os form place → IsArgument call place word n → argument_of form place word ≡ Some n
-argument_is call form place word n o (inl h) = number_argument form place word n (number_is word n h)
-argument_is call form place word n o (inr h) = os_argument form place word n (sym o ∙ h.0) h.1 h.2
+-- `os` may stand where it may stand for the form
+abbrev SameOwner : (ℕ → Bool) → Form → Type 0
+SameOwner os_there form = (place : ℕ) → os_there place ≡ takes_os form place
 
-argument_found : (call : Call) (form : Form) (place : ℕ) (word : List ℕ) (n : ℕ) → is_owner_place call place ≡ takes_os form place → argument_of form place word ≡ Some n → IsArgument call place word n
-argument_found call form place word n o h =
+argument_is : (os_there : ℕ → Bool) (form : Form) (place : ℕ) (word : List ℕ) (n : ℕ) → os_there place ≡ takes_os form place → IsArgument os_there place word n → argument_of form place word ≡ Some n
+argument_is os_there form place word n o (inl h) = number_argument form place word n (number_is word n h)
+argument_is os_there form place word n o (inr h) = os_argument form place word n (sym o ∙ h.0) h.1 h.2
+
+argument_found : (os_there : ℕ → Bool) (form : Form) (place : ℕ) (word : List ℕ) (n : ℕ) → os_there place ≡ takes_os form place → argument_of form place word ≡ Some n → IsArgument os_there place word n
+argument_found os_there form place word n o h =
     elim (cases_Bool (takes_os form place && bytes_eq word (codes "os"))) [
       | inl t ↦
           let p = and_parts (takes_os form place) (bytes_eq word (codes "os")) t in
@@ -66,63 +71,101 @@ argument_found call form place word n o h =
       | inr f ↦ inl (number_found word n (rw f at h))
     ]
 
-arguments_are : (call : Call) (form : Form) (place : ℕ) (words : List (List ℕ)) (ns : List ℕ) → ((p : ℕ) → is_owner_place call p ≡ takes_os form p) → AreArguments call place words ns → arguments_of form place words ≡ Some ns
+arguments_are : (os_there : ℕ → Bool) (form : Form) (place : ℕ) (words : List (List ℕ)) (ns : List ℕ) → SameOwner os_there form → AreArguments os_there place words ns → arguments_of form place words ≡ Some ns
 unfolding arguments_of
-arguments_are call form place [] [] o h = refl
-arguments_are call form place [] (n ∷ ns) o h = absurd h
-arguments_are call form place (word ∷ words) [] o h = absurd h
-arguments_are call form place (word ∷ words) (n ∷ ns) o h = rw (argument_is call form place word n (o place) h.0, arguments_are call form (place + 1) words ns o h.1) refl
+arguments_are os_there form place [] [] o h = refl
+arguments_are os_there form place [] (n ∷ ns) o h = absurd h
+arguments_are os_there form place (word ∷ words) [] o h = absurd h
+arguments_are os_there form place (word ∷ words) (n ∷ ns) o h = rw (argument_is os_there form place word n (o place) h.0, arguments_are os_there form (place + 1) words ns o h.1) refl
 
-same_length : (call : Call) (place : ℕ) (words : List (List ℕ)) (ns : List ℕ) → AreArguments call place words ns → length words ≡ length ns
-same_length call place [] [] h = refl
-same_length call place [] (n ∷ ns) h = absurd h
-same_length call place (word ∷ words) [] h = absurd h
-same_length call place (word ∷ words) (n ∷ ns) h = ap suc (same_length call (place + 1) words ns h.1)
+same_length : (os_there : ℕ → Bool) (place : ℕ) (words : List (List ℕ)) (ns : List ℕ) → AreArguments os_there place words ns → length words ≡ length ns
+same_length os_there place [] [] h = refl
+same_length os_there place [] (n ∷ ns) h = absurd h
+same_length os_there place (word ∷ words) [] h = absurd h
+same_length os_there place (word ∷ words) (n ∷ ns) h = ap suc (same_length os_there (place + 1) words ns h.1)
 
 map_some : (f : List ℕ → List ℕ) (o : Option (List ℕ)) (y : List ℕ) → option_map f o ≡ Some y → (x : List ℕ) × (o ≡ Some x) × (f x ≡ y)
 map_some f None y h = absurd cc
 map_some f (Some x) y h = let e : f x ≡ y = cc in (x, refl, e)
 
-arguments_found : (call : Call) (form : Form) (place : ℕ) (words : List (List ℕ)) (ns : List ℕ) → ((p : ℕ) → is_owner_place call p ≡ takes_os form p) → arguments_of form place words ≡ Some ns → AreArguments call place words ns
+arguments_found : (os_there : ℕ → Bool) (form : Form) (place : ℕ) (words : List (List ℕ)) (ns : List ℕ) → SameOwner os_there form → arguments_of form place words ≡ Some ns → AreArguments os_there place words ns
 unfolding arguments_of
-arguments_found call form place [] [] o h = tt
-arguments_found call form place [] (n ∷ ns) o h = absurd cc
-arguments_found call form place (word ∷ words) [] o h = option_and_then_some (λ n. option_map (λ ns. n ∷ ns) (arguments_of form (place + 1) words)) (argument_of form place word) [] h (λ n w r.
+arguments_found os_there form place [] [] o h = tt
+arguments_found os_there form place [] (n ∷ ns) o h = absurd cc
+arguments_found os_there form place (word ∷ words) [] o h = option_and_then_some (λ n. option_map (λ ns. n ∷ ns) (arguments_of form (place + 1) words)) (argument_of form place word) [] h (λ n w r.
     let m = map_some (λ ns. n ∷ ns) (arguments_of form (place + 1) words) [] r in let e : n ∷ m.0 ≡ [] = m.2 in absurd cc)
-arguments_found call form place (word ∷ words) (n ∷ ns) o h = option_and_then_some (λ n. option_map (λ ns. n ∷ ns) (arguments_of form (place + 1) words)) (argument_of form place word) (n ∷ ns) h (λ k w r.
+arguments_found os_there form place (word ∷ words) (n ∷ ns) o h = option_and_then_some (λ n. option_map (λ ns. n ∷ ns) (arguments_of form (place + 1) words)) (argument_of form place word) (n ∷ ns) h (λ k w r.
     let m = map_some (λ ns. k ∷ ns) (arguments_of form (place + 1) words) (n ∷ ns) r in
     let both : k ∷ m.0 ≡ n ∷ ns = m.2 in
     let first : k ≡ n = cc in
     let others : m.0 ≡ ns = cc in
-    (argument_found call form place word n (o place) (w ∙ ap (λ (x : ℕ). Some x) first), arguments_found call form (place + 1) words ns o (m.1 ∙ ap (λ (x : List ℕ). Some x) others)))
+    (argument_found os_there form place word n (o place) (w ∙ ap (λ (x : ℕ). Some x) first), arguments_found os_there form (place + 1) words ns o (m.1 ∙ ap (λ (x : List ℕ). Some x) others)))
 
--- ---- calls
+-- ---- what stands for a line is read so
 
-call_is : (call : Call) (args : List (List ℕ)) (h : HasForm call) → AreArguments call 0 args (call_args call) → call_with h.form args ≡ Ok call
-call_is call args h a =
-    let count : length args ≡ arity h.form = same_length call 0 args (call_args call) a ∙ h.count in
-    rw (le-ltb (length args) (arity h.form) (omega arith), le-ltb (arity h.form) (length args) (omega arith), arguments_are call h.form 0 args (call_args call) h.owner a)
-    (ap (λ (x : Call). Ok x) h.call_is)
+-- the words of a form, with as many arguments as it takes, and the line that it makes of them
+form_is : (os_there : ℕ → Bool) (form : Form) (words : List (List ℕ)) (ns : List ℕ) (line : Line) → SameOwner os_there form → AreArguments os_there 0 words ns → least form ≤ length ns → length ns ≤ most form → form_line form (with_zeros 7 ns) ≡ Some line → form_read form words ≡ Ok line
+unfolding form_read
+form_is os_there form words ns line o a low high l =
+    let count : length words ≡ length ns = same_length os_there 0 words ns a in
+    rw (le-ltb (length words) (least form) (omega arith), le-ltb (most form) (length words) (omega arith), arguments_are os_there form 0 words ns o a, l) refl
+
+-- a line that begins with the word of a form
+named_line : (n : ℕ) (word : List ℕ) (form : Form) (words : List (List ℕ)) (line : Line) → form_named word ≡ Some form → is_later_word word ≡ false → form_read form words ≡ Ok line → line_of_words n (word ∷ words) ≡ Ok (Some line)
+unfolding line_of_words
+named_line n word form words line w now r = rw (now, w, r) refl
 
 call_line_is : (n : ℕ) (words : List (List ℕ)) (call : Call) → IsCallLine words call → line_of_words n words ≡ Ok (Some (lines.Make call))
-unfolding line_of_words call_of
 call_line_is n words call h =
-    let f = has_form call h.built in
-    rw h.words_are (rw (f.now, f.named, call_is call h.args f h.are_arguments) refl)
+    let f = has_form call h.named in
+    ap (line_of_words n) h.words_are
+    ∙ named_line n (call_name call) f.form h.args (lines.Make call) f.named f.now
+    (form_is (is_owner_place call) f.form h.args (call_args call) (lines.Make call) f.owner h.are_arguments (omega (arith, f.at_least)) (omega (arith, f.at_most)) f.line_is)
+
+-- no `os` may stand among the arguments of ecall, pc and reg
+abbrev nowhere : ℕ → Bool
+nowhere place = false
+
+ecall_line_is : (n : ℕ) (words : List (List ℕ)) (call : Call) → IsEcallLine words call → line_of_words n words ≡ Ok (Some (lines.Make call))
+ecall_line_is n words call h =
+    let made : form_line forms.Ecall (with_zeros 7 (h.number ∷ h.args)) ≡ Some (lines.Make call) = ecall_line h.number h.args ∙ ap (λ (x : Call). Some (lines.Make x)) (sym h.call_is) in
+    ap (line_of_words n) h.words_are
+    ∙ named_line n (codes "ecall") forms.Ecall h.numbers (lines.Make call) ecall_word.named ecall_word.now
+    (form_is nowhere forms.Ecall h.numbers (h.number ∷ h.args) (lines.Make call) (λ place. refl) h.are_numbers (omega arith) (omega (arith, h.few)) made)
+
+tick_line_is : (n : ℕ) (words : List (List ℕ)) → words ≡ codes "tick" ∷ [] → line_of_words n words ≡ Ok (Some lines.Tick)
+tick_line_is n words h =
+    ap (line_of_words n) h ∙ named_line n (codes "tick") forms.Tick [] lines.Tick tick_word.named tick_word.now (form_is nowhere forms.Tick [] [] lines.Tick (λ place. refl) tt (omega arith) (omega arith) refl)
+
+pc_line_is : (n : ℕ) (words : List (List ℕ)) (pc : ℕ) → IsPcLine words pc → line_of_words n words ≡ Ok (Some (lines.SetPc pc))
+pc_line_is n words pc h =
+    ap (line_of_words n) h.words_are
+    ∙ named_line n (codes "pc") forms.SetPc h.numbers (lines.SetPc pc) pc_word.named pc_word.now
+    (form_is nowhere forms.SetPc h.numbers (pc ∷ []) (lines.SetPc pc) (λ place. refl) h.are_numbers (omega arith) (omega arith) (pc_is pc h.whole))
+
+reg_line_is : (n : ℕ) (words : List (List ℕ)) (x value : ℕ) → IsRegLine words x value → line_of_words n words ≡ Ok (Some (lines.SetReg x value))
+reg_line_is n words x value h =
+    ap (line_of_words n) h.words_are
+    ∙ named_line n (codes "reg") forms.SetReg h.numbers (lines.SetReg x value) reg_word.named reg_word.now
+    (form_is nowhere forms.SetReg h.numbers (x ∷ value ∷ []) (lines.SetReg x value) (λ place. refl) h.are_numbers (omega arith) (omega arith) (reg_is x value h.from h.to))
 
 no_words_are : (n : ℕ) → line_of_words n [] ≡ Ok None
 unfolding line_of_words
 no_words_are n = refl
 
+made_line_is : (n : ℕ) (words : List (List ℕ)) (call : Call) → IsCallLine words call ⊎ IsEcallLine words call → line_of_words n words ≡ Ok (Some (lines.Make call))
+made_line_is n words call (inl h) = call_line_is n words call h
+made_line_is n words call (inr h) = ecall_line_is n words call h
+
 words_stand : (n : ℕ) (words : List (List ℕ)) (line : Option Line) → StandsFor words line → line_of_words n words ≡ Ok line
 words_stand n words None h = ap (line_of_words n) h ∙ no_words_are n
-words_stand n words (Some (lines.Make call)) h = call_line_is n words call h
+words_stand n words (Some (lines.Make call)) h = made_line_is n words call h
 words_stand n words (Some (lines.Run k)) h = absurd h
-words_stand n words (Some lines.Tick) h = absurd h
+words_stand n words (Some lines.Tick) h = tick_line_is n words h
 words_stand n words (Some (lines.LoadWord va)) h = absurd h
 words_stand n words (Some (lines.StoreWord va value)) h = absurd h
-words_stand n words (Some (lines.SetPc pc)) h = absurd h
-words_stand n words (Some (lines.SetReg x value)) h = absurd h
+words_stand n words (Some (lines.SetPc pc)) h = pc_line_is n words pc h
+words_stand n words (Some (lines.SetReg x value)) h = reg_line_is n words x value h
 
 -- ---- what the words of a line are read as
 
@@ -132,53 +175,113 @@ err_ok e x P h = absurd cc
 ok_same : {X E : Type 0} (x y : X) → ◌≡◌ {A = Result X E} (Ok x) (Ok y) → x ≡ y
 ok_same x y h = cc
 
--- the arguments of a call that was read
-record HasArguments (form : Form) (args : List (List ℕ)) (call : Call) : Type 0 where
+some_same : {X : Type 0} (x y : X) → ◌≡◌ {A = Option X} (Some x) (Some y) → x ≡ y
+some_same x y h = cc
+
+-- the arguments of a line that was read
+record HasArguments (form : Form) (args : List (List ℕ)) (line : Line) : Type 0 where
   ns : List ℕ
-  count : length args ≡ arity form
+  low : least form ≤ length args
+  high : length args ≤ most form
   read : arguments_of form 0 args ≡ Some ns
-  is : form_call form ns ≡ call
+  is : form_line form (with_zeros 7 ns) ≡ Some line
 
-with_found : (form : Form) (args : List (List ℕ)) (call : Call) (o : Option (List ℕ)) → length args ≡ arity form → arguments_of form 0 args ≡ o → with_arguments form o ≡ Ok call → HasArguments form args call
-with_found form args call None c r h = err_ok kinds.BadNumber call (HasArguments form args call) h
-with_found form args call (Some ns) c r h = record { ns = ns; count = c; read = r; is = ok_same (form_call form ns) call h }
+or_found : (o : Option Line) (line : Line) → ok_or o kinds.BadNumber ≡ Ok line → o ≡ Some line
+or_found None line h = err_ok kinds.BadNumber line (None ≡ Some line) h
+or_found (Some made) line h = ap (λ (x : Line). Some x) (ok_same made line h)
 
-call_with_found : (form : Form) (args : List (List ℕ)) (call : Call) → call_with form args ≡ Ok call → HasArguments form args call
-call_with_found form args call h =
-    elim (cases_Bool (ltb (length args) (arity form))) [
-      | inl t ↦ err_ok kinds.MissingWord call (HasArguments form args call) (rw t at h)
-      | inr f ↦ elim (cases_Bool (ltb (arity form) (length args))) [
-        | inl t ↦ err_ok kinds.ExtraWord call (HasArguments form args call) (rw (f, t) at h)
-        | inr g ↦
-            let le : arity form ≤ length args = ltb-false (length args) (arity form) f in
-            let ge : length args ≤ arity form = ltb-false (arity form) (length args) g in
-            with_found form args call (arguments_of form 0 args) (omega arith) refl (rw (f, g) at h)
+with_found : (form : Form) (args : List (List ℕ)) (line : Line) → least form ≤ length args → length args ≤ most form → line_with form (arguments_of form 0 args) ≡ Some line → HasArguments form args line
+with_found form args line low high h =
+    option_and_then_some (λ ns. form_line form (with_zeros 7 ns)) (arguments_of form 0 args) line h (λ ns r l. record { ns = ns; low = low; high = high; read = r; is = l })
+
+form_read_found : (form : Form) (args : List (List ℕ)) (line : Line) → form_read form args ≡ Ok line → HasArguments form args line
+unfolding form_read
+form_read_found form args line h =
+    elim (cases_Bool (ltb (length args) (least form))) [
+      | inl t ↦ err_ok kinds.MissingWord line (HasArguments form args line) (rw t at h)
+      | inr f ↦ elim (cases_Bool (ltb (most form) (length args))) [
+        | inl t ↦ err_ok kinds.ExtraWord line (HasArguments form args line) (rw (f, t) at h)
+        | inr g ↦ with_found form args line (ltb-false (length args) (least form) f) (ltb-false (most form) (length args) g) (or_found (line_with form (arguments_of form 0 args)) line (rw (f, g) at h))
       ]
     ]
 
-form_found : (word : List ℕ) (args : List (List ℕ)) (call : Call) (form : Form) → form_named word ≡ Some form → call_with form args ≡ Ok call → IsCallLine (word ∷ args) call
-form_found word args call form w h =
-    let a = call_with_found form args call h in
-    let found : AreArguments (form_call form a.ns) 0 args a.ns = arguments_found (form_call form a.ns) form 0 args a.ns (owner_is form a.ns) a.read in
-    let count : length a.ns ≡ arity form = sym (same_length (form_call form a.ns) 0 args a.ns found) ∙ a.count in
-    subst (λ (x : Call). IsCallLine (word ∷ args) x) a.is (record {
-      built = built_is form a.ns;
+-- the line of this first word and these arguments
+abbrev Found : List ℕ → List (List ℕ) → Line → Type 0
+Found word args line = StandsFor (word ∷ args) (Some line)
+
+named_found : (number arity : ℕ) (word : List ℕ) (args : List (List ℕ)) (line : Line) → word ≡ form_name (forms.Named number arity) → HoldsForm (forms.Named number arity) → HasArguments (forms.Named number arity) args line → Found word args line
+named_found number arity word args line w holds a =
+    let found : AreArguments (takes_os (forms.Named number arity)) 0 args a.ns = arguments_found (takes_os (forms.Named number arity)) (forms.Named number arity) 0 args a.ns (λ place. refl) a.read in
+    let same : length args ≡ length a.ns = same_length (takes_os (forms.Named number arity)) 0 args a.ns found in
+    let count : length a.ns ≡ arity = omega (arith, a.low, a.high) in
+    let m = holds a.ns count in
+    let there : AreArguments (is_owner_place m.call) 0 args a.ns = arguments_found (is_owner_place m.call) (forms.Named number arity) 0 args a.ns m.owner a.read in
+    subst (λ (x : Line). Found word args x) (some_same (lines.Make m.call) line (sym m.line_is ∙ a.is)) (inl (record {
+      named = m.named;
       args = args;
-      words_are = ap (λ (x : List ℕ). x ∷ args) (named_is word form w ∙ sym (name_is form a.ns));
-      are_arguments = subst (λ (x : List ℕ). AreArguments (form_call form a.ns) 0 args x) (sym (args_are form a.ns count)) found;
-    })
+      words_are = ap (λ (x : List ℕ). x ∷ args) (w ∙ sym m.name_is);
+      are_arguments = subst (λ (x : List ℕ). AreArguments (is_owner_place m.call) 0 args x) (sym m.args_are) there;
+    }))
 
-call_in_found : (word : List ℕ) (args : List (List ℕ)) (call : Call) (o : Option Form) → form_named word ≡ o → call_in o args ≡ Ok call → IsCallLine (word ∷ args) call
-call_in_found word args call None w h = err_ok kinds.UnknownWord call (IsCallLine (word ∷ args) call) h
-call_in_found word args call (Some form) w h = form_found word args call form w h
+-- the numbers of a line that was read
+numbers_found : (form : Form) (args : List (List ℕ)) (line : Line) (a : HasArguments form args line) → SameOwner nowhere form → AreNumbers args a.ns
+numbers_found form args line a o = arguments_found nowhere form 0 args a.ns o a.read
 
-call_found : (word : List ℕ) (args : List (List ℕ)) (call : Call) → call_of word args ≡ Ok call → IsCallLine (word ∷ args) call
-unfolding call_of
-call_found word args call h = call_in_found word args call (form_named word) refl h
+ecall_by : (word : List ℕ) (args : List (List ℕ)) (line : Line) (ns : List ℕ) → word ≡ codes "ecall" → 1 ≤ length args → length args ≤ 7 → AreNumbers args ns → form_line forms.Ecall (with_zeros 7 ns) ≡ Some line → Found word args line
+ecall_by word args line [] w low high found is = let same : length args ≡ 0 = same_length nowhere 0 args [] found in absurd (omega arith)
+ecall_by word args line (n ∷ ns) w low high found is =
+    let same : length args ≡ length ns + 1 = omega (arith, same_length nowhere 0 args (n ∷ ns) found) in
+    subst (λ (x : Line). Found word args x) (some_same (lines.Make (call_of_registers n (with_zeros 6 ns))) line (sym (ecall_line n ns) ∙ is)) (inr (record {
+      number = n;
+      args = ns;
+      numbers = args;
+      words_are = ap (λ (x : List ℕ). x ∷ args) w;
+      are_numbers = found;
+      few = omega arith;
+      call_is = refl;
+    }))
 
-at_line_found : (n : ℕ) (word : List ℕ) (args : List (List ℕ)) (line : Option Line) (r : Result Call LineKind) → call_of word args ≡ r → at_line n r ≡ Ok line → StandsFor (word ∷ args) line
-at_line_found n word args line (Ok call) c h = subst (λ (x : Option Line). StandsFor (word ∷ args) x) (ok_same (Some (lines.Make call)) line h) (call_found word args call c)
-at_line_found n word args line (Err kind) c h = err_ok (faults.BadLine n kind) line (StandsFor (word ∷ args) line) h
+tick_by : (word : List ℕ) (args : List (List ℕ)) (line : Line) → word ≡ codes "tick" → length args ≤ 0 → Some lines.Tick ≡ Some line → Found word args line
+tick_by word [] line w high is = subst (λ (x : Line). Found word [] x) (some_same lines.Tick line is) (ap (λ (x : List ℕ). x ∷ []) w)
+tick_by word (arg ∷ args) line w high is = absurd (omega arith)
+
+pc_by : (word : List ℕ) (args : List (List ℕ)) (line : Line) (ns : List ℕ) → word ≡ codes "pc" → length ns ≡ 1 → AreNumbers args ns → form_line forms.SetPc (with_zeros 7 ns) ≡ Some line → Found word args line
+pc_by word args line [] w count found is = absurd (omega arith)
+pc_by word args line (pc ∷ n ∷ ns) w count found is = absurd (omega arith)
+pc_by word args line (pc ∷ []) w count found is =
+    let p = pc_found pc line is in
+    subst (λ (x : Line). Found word args x) p.1 (record { numbers = args; words_are = ap (λ (x : List ℕ). x ∷ args) w; are_numbers = found; whole = p.0 })
+
+reg_by : (word : List ℕ) (args : List (List ℕ)) (line : Line) (ns : List ℕ) → word ≡ codes "reg" → length ns ≡ 2 → AreNumbers args ns → form_line forms.SetReg (with_zeros 7 ns) ≡ Some line → Found word args line
+reg_by word args line [] w count found is = absurd (omega arith)
+reg_by word args line (x ∷ []) w count found is = absurd (omega arith)
+reg_by word args line (x ∷ value ∷ n ∷ ns) w count found is = absurd (omega arith)
+reg_by word args line (x ∷ value ∷ []) w count found is =
+    let p = reg_found x value line is in
+    subst (λ (l : Line). Found word args l) p.2 (record { numbers = args; words_are = ap (λ (l : List ℕ). l ∷ args) w; are_numbers = found; from = p.0; to = p.1 })
+
+form_found : (word : List ℕ) (args : List (List ℕ)) (line : Line) (form : Form) → word ≡ form_name form → HoldsForm form → HasArguments form args line → Found word args line
+unfolding form_name
+form_found word args line (forms.Named number arity) w holds a = named_found number arity word args line w holds a
+form_found word args line forms.Ecall w holds a = ecall_by word args line a.ns w a.low a.high (numbers_found forms.Ecall args line a (λ place. refl)) a.is
+form_found word args line forms.Tick w holds a = tick_by word args line w a.high a.is
+form_found word args line forms.SetPc w holds a =
+    let found = numbers_found forms.SetPc args line a (λ place. refl) in
+    let same : length args ≡ length a.ns = same_length nowhere 0 args a.ns found in
+    pc_by word args line a.ns w (omega (arith, a.low, a.high)) found a.is
+form_found word args line forms.SetReg w holds a =
+    let found = numbers_found forms.SetReg args line a (λ place. refl) in
+    let same : length args ≡ length a.ns = same_length nowhere 0 args a.ns found in
+    reg_by word args line a.ns w (omega (arith, a.low, a.high)) found a.is
+
+at_line_found : (n : ℕ) (word : List ℕ) (args : List (List ℕ)) (form : Form) (line : Option Line) (r : Result Line LineKind) → form_named word ≡ Some form → form_read form args ≡ r → at_line n r ≡ Ok line → StandsFor (word ∷ args) line
+at_line_found n word args form line (Ok made) w r h =
+    subst (λ (x : Option Line). StandsFor (word ∷ args) x) (ok_same (Some made) line h) (form_found word args made form (named_is word form w) (named_holds word form w) (form_read_found form args made r))
+at_line_found n word args form line (Err kind) w r h = err_ok (faults.BadLine n kind) line (StandsFor (word ∷ args) line) h
+
+line_in_found : (n : ℕ) (word : List ℕ) (args : List (List ℕ)) (o : Option Form) (line : Option Line) → form_named word ≡ o → line_in n o args ≡ Ok line → StandsFor (word ∷ args) line
+line_in_found n word args None line w h = err_ok (faults.BadLine n kinds.UnknownWord) line (StandsFor (word ∷ args) line) h
+line_in_found n word args (Some form) line w h = at_line_found n word args form line (form_read form args) w refl h
 
 words_line_found : (n : ℕ) (words : List (List ℕ)) (line : Option Line) → line_of_words n words ≡ Ok line → StandsFor words line
 unfolding line_of_words
@@ -186,7 +289,7 @@ words_line_found n [] line h = subst (λ (x : Option Line). StandsFor [] x) (ok_
 words_line_found n (word ∷ args) line h =
     elim (cases_Bool (is_later_word word)) [
       | inl t ↦ err_ok (faults.NotBuilt n) line (StandsFor (word ∷ args) line) (rw t at h)
-      | inr f ↦ at_line_found n word args line (call_of word args) refl (rw f at h)
+      | inr f ↦ line_in_found n word args (form_named word) line refl (rw f at h)
     ]
 
 -- ---- bytes that are not ASCII
@@ -212,31 +315,37 @@ number_ascii word n h = by_form h.form
     by_form (inl d) = digits_ascii 10 word n d.1
     by_form (inr x) = ap (list_all is_ascii) x.1 ∙ digits_ascii 16 x.0 n x.3
 
-argument_ascii : (call : Call) (place : ℕ) (word : List ℕ) (n : ℕ) → IsArgument call place word n → list_all is_ascii word ≡ true
-argument_ascii call place word n (inl h) = number_ascii word n h
-argument_ascii call place word n (inr h) = ap (list_all is_ascii) h.1
+argument_ascii : (os_there : ℕ → Bool) (place : ℕ) (word : List ℕ) (n : ℕ) → IsArgument os_there place word n → list_all is_ascii word ≡ true
+argument_ascii os_there place word n (inl h) = number_ascii word n h
+argument_ascii os_there place word n (inr h) = ap (list_all is_ascii) h.1
 
 abbrev AreAscii : List (List ℕ) → Type 0
 AreAscii words = list_all (list_all is_ascii) words ≡ true
 
-arguments_ascii : (call : Call) (place : ℕ) (words : List (List ℕ)) (ns : List ℕ) → AreArguments call place words ns → AreAscii words
-arguments_ascii call place [] [] h = refl
-arguments_ascii call place [] (n ∷ ns) h = absurd h
-arguments_ascii call place (word ∷ words) [] h = absurd h
-arguments_ascii call place (word ∷ words) (n ∷ ns) h = and_from (list_all is_ascii word) (list_all (list_all is_ascii) words) (argument_ascii call place word n h.0) (arguments_ascii call (place + 1) words ns h.1)
+arguments_ascii : (os_there : ℕ → Bool) (place : ℕ) (words : List (List ℕ)) (ns : List ℕ) → AreArguments os_there place words ns → AreAscii words
+arguments_ascii os_there place [] [] h = refl
+arguments_ascii os_there place [] (n ∷ ns) h = absurd h
+arguments_ascii os_there place (word ∷ words) [] h = absurd h
+arguments_ascii os_there place (word ∷ words) (n ∷ ns) h =
+    and_from (list_all is_ascii word) (list_all (list_all is_ascii) words) (argument_ascii os_there place word n h.0) (arguments_ascii os_there (place + 1) words ns h.1)
 
-call_ascii : (words : List (List ℕ)) (call : Call) → IsCallLine words call → AreAscii words
-call_ascii words call h = rw h.words_are (and_from (list_all is_ascii (call_name call)) (list_all (list_all is_ascii) h.args) (has_form call h.built).ascii (arguments_ascii call 0 h.args (call_args call) h.are_arguments))
+-- a word, and its arguments
+pair_ascii : (os_there : ℕ → Bool) (words : List (List ℕ)) (word : List ℕ) (args : List (List ℕ)) (ns : List ℕ) → words ≡ word ∷ args → list_all is_ascii word ≡ true → AreArguments os_there 0 args ns → AreAscii words
+pair_ascii os_there words word args ns w a h = rw w (and_from (list_all is_ascii word) (list_all (list_all is_ascii) args) a (arguments_ascii os_there 0 args ns h))
+
+made_ascii : (words : List (List ℕ)) (call : Call) → IsCallLine words call ⊎ IsEcallLine words call → AreAscii words
+made_ascii words call (inl h) = pair_ascii (is_owner_place call) words (call_name call) h.args (call_args call) h.words_are (has_form call h.named).ascii h.are_arguments
+made_ascii words call (inr h) = pair_ascii nowhere words (codes "ecall") h.numbers (h.number ∷ h.args) h.words_are refl h.are_numbers
 
 words_ascii : (words : List (List ℕ)) (line : Option Line) → StandsFor words line → AreAscii words
 words_ascii words None h = ap (list_all (list_all is_ascii)) h
-words_ascii words (Some (lines.Make call)) h = call_ascii words call h
+words_ascii words (Some (lines.Make call)) h = made_ascii words call h
 words_ascii words (Some (lines.Run k)) h = absurd h
-words_ascii words (Some lines.Tick) h = absurd h
+words_ascii words (Some lines.Tick) h = ap (list_all (list_all is_ascii)) h
 words_ascii words (Some (lines.LoadWord va)) h = absurd h
 words_ascii words (Some (lines.StoreWord va value)) h = absurd h
-words_ascii words (Some (lines.SetPc pc)) h = absurd h
-words_ascii words (Some (lines.SetReg x value)) h = absurd h
+words_ascii words (Some (lines.SetPc pc)) h = pair_ascii nowhere words (codes "pc") h.numbers (pc ∷ []) h.words_are refl h.are_numbers
+words_ascii words (Some (lines.SetReg x value)) h = pair_ascii nowhere words (codes "reg") h.numbers (x ∷ value ∷ []) h.words_are refl h.are_numbers
 
 front_ascii : (text : List ℕ) (words : List (List ℕ)) → AreWords text words → AreAscii words → list_all is_ascii text ≡ true
 front_ascii text [] h a = ascii_from is_blank text blank_ascii h

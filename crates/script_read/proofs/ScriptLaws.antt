@@ -1,21 +1,19 @@
 -- A script is read as what it is in the grammar, and as nothing else.
-use Rattle.std.proofs.Common.{◌≡◌, ℕ, zero, suc, ◌+◌, ◌-◌, ◌≤◌, true, ltb, List, [], ◌∷◌, ◌++◌, length, replicate, Option, Some, None, Result, Ok, Err, refl, sym, ap, subst, ◌∙◌, arith, inl, inr}
+use Rattle.std.proofs.Common.{◌≡◌, ℕ, zero, suc, ◌+◌, ◌-◌, ◌≤◌, ltb, List, [], ◌∷◌, ◌++◌, length, replicate, Option, Some, None, Result, Ok, Err, refl, sym, ap, subst, ◌∙◌, arith, inl, inr}
 use Rattle.std.specs.Prelude.{IfOk, IfSome}
 use Rattle.std.specs.List.{AllByRecursion}
 use Rattle.std.specs.Option.{option_to_list}
 use Rattle.std.proofs.lemmas.Bool.{cases_Bool, ltb-false, le-ltb}
 use Rattle.std.proofs.lemmas.List.{length-replicate}
-use Rattle.mon_types.specs.Built.{is_built_line}
 use Rattle.mon_types.specs.declared.script.Line.{Line}
-use Rattle.mon_types.specs.declared.script.Line.TheVariants as lines
 use Rattle.mon_types.specs.declared.script.Script.{Script}
 use Rattle.script_read.specs.declared.fault.ScriptFault.{ScriptFault}
 use Rattle.script_read.specs.declared.fault.ScriptFault.TheVariants as faults
 use Rattle.script_read.specs.declared.fault.ParseError.{ParseError}
 use Rattle.script_read.specs.Text.{lines_of}
-use Rattle.script_read.specs.Grammar.{StandsFor, IsLine, AreLines, core_count, for_cores, limit, IsScript}
+use Rattle.script_read.specs.Grammar.{AreLines, core_count, for_cores, limit, IsScript}
 use Rattle.script_read.specs.Reading.{◌>>=◌, line_of, lines_from, all_lines, script_of}
-use Rattle.script_read.specs.Answers.{Gives, AreBuilt}
+use Rattle.script_read.specs.Answers.{Gives}
 use Rattle.script_read.proofs.TextLaws.{text_lines_are, text_lines_found}
 use Rattle.script_read.proofs.LineLaws.{line_is, line_found}
 
@@ -78,27 +76,7 @@ script_found cores bytes script h =
       script_is = sym (same (for_cores cores a.0) script a.2);
     }
 
--- ---- each line is one that is built
-
-stands_built : (words : List (List ℕ)) (line : Line) → StandsFor words (Some line) → is_built_line line ≡ true
-stands_built words (lines.Make call) h = h.built
-stands_built words (lines.Run n) h = absurd h
-stands_built words lines.Tick h = absurd h
-stands_built words (lines.LoadWord va) h = absurd h
-stands_built words (lines.StoreWord va value) h = absurd h
-stands_built words (lines.SetPc pc) h = absurd h
-stands_built words (lines.SetReg x value) h = absurd h
-
-abbrev Built : List Line → Type 0
-Built made = AllByRecursion (λ line. is_built_line line ≡ true) made
-
-line_built : (text : List ℕ) (line : Option Line) (others : List Line) → IsLine text line → Built others → Built (option_to_list line ++ others)
-line_built text None others h b = b
-line_built text (Some line) others h b = (stands_built h.words line h.stands, b)
-
-lines_built : (texts : List (List ℕ)) (made : List Line) → AreLines texts made → Built made
-lines_built [] made h = subst Built (sym h) tt
-lines_built (text ∷ texts) made h = subst Built (sym h.3) (line_built text h.0 h.1 h.2 (lines_built texts h.1 h.4))
+-- ---- the lists of the cores
 
 all_replicate : (P : List Line → Type 0) (n : ℕ) → P [] → AllByRecursion P (replicate n [])
 all_replicate P zero h = tt
@@ -106,9 +84,6 @@ all_replicate P (suc n) h = (h, all_replicate P n h)
 
 pub each_core : (P : List Line → Type 0) (cores : Option ℕ) (made : List Line) → P made → P [] → AllByRecursion P (for_cores cores made)
 each_core P cores made h none = (h, all_replicate P (core_count cores - 1) none)
-
-pub script_built : (cores : Option ℕ) (bytes : List ℕ) (script : List (List Line)) → IsScript cores bytes script → AreBuilt script
-script_built cores bytes script h = subst AreBuilt (sym h.script_is) (each_core Built cores h.made (lines_built h.texts h.made h.are_lines) tt)
 
 -- ---- answers
 
@@ -118,10 +93,6 @@ found_if cores bytes (Err e) h = tt
 
 pub only_if : (cores : Option ℕ) (bytes : List ℕ) (r : Result Script ParseError) → Gives (λ s. s.cores) r (script_of cores bytes) → (script : List (List Line)) → IsScript cores bytes script → Gives (λ s. s.cores) r (Ok script)
 only_if cores bytes r g script h = subst (λ (x : Result (List (List Line)) ScriptFault). Gives (λ s. s.cores) r x) (script_is cores bytes script h) g
-
-pub built_if : (cores : Option ℕ) (bytes : List ℕ) (r : Result Script ParseError) → Gives (λ s. s.cores) r (script_of cores bytes) → IfOk r (λ s. AreBuilt s.cores)
-built_if cores bytes (Ok s) h = script_built cores bytes s.cores (script_found cores bytes s.cores h)
-built_if cores bytes (Err e) h = tt
 
 some_cores : (cores : Option ℕ) → IfSome cores (λ count. 1 ≤ count) → 1 ≤ core_count cores
 some_cores None h = omega arith

@@ -1,7 +1,6 @@
 -- What the readers answer, beside what reading gives. All of it is this project's own.
-use Rattle.std.specs.Prelude.{◌≡◌, ◌≤◌, ℕ, true, List, length, Option, Result, Ok, Err, IfSome, IfOk}
+use Rattle.std.specs.Prelude.{◌≡◌, ◌≤◌, ℕ, List, length, Option, Result, Ok, Err, IfSome, IfOk}
 use Rattle.std.specs.List.{AllByRecursion}
-use Rattle.mon_types.specs.Built.{is_built_line}
 use Rattle.mon_types.specs.declared.script.Line.{Line}
 use Rattle.mon_types.specs.declared.script.Script.{Script}
 use Rattle.script_read.specs.Grammar.{limit, IsScript}
@@ -42,10 +41,6 @@ widened_error (errors.Fault fault) = outer.Fault fault
 abbrev pub widened : {X : Type 0} → Result X ParseError → Result X ScriptError
 widened (Ok x) = Ok x
 widened (Err error) = Err (widened_error error)
-
--- each line of each core is of a form that is carried out so far
-abbrev pub AreBuilt : List (List Line) → Type 0
-AreBuilt script = AllByRecursion (λ made. AllByRecursion (λ line. is_built_line line ≡ true) made) script
 
 -- no core has more lines than a script has bytes at most
 abbrev pub AreFew : List (List Line) → Type 0

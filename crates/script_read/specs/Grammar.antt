@@ -1,9 +1,8 @@
 -- The grammar of scripts, apart from the way in which they are read. All of it is this project's own.
-use Rattle.std.specs.Prelude.{◌≡◌, ℕ, ◌+◌, ◌-◌, ◌<◌, ◌≤◌, ◌⊎◌, Bool, true, false, ◌==◌, List, [], ◌∷◌, ◌++◌, length, replicate, codes, Option, Some, None, ⊤}
+use Rattle.std.specs.Prelude.{◌≡◌, ℕ, ◌+◌, ◌-◌, ◌%◌, ◌<◌, ◌≤◌, ◌⊎◌, Bool, true, false, ◌==◌, List, [], ◌∷◌, ◌++◌, length, replicate, codes, Option, Some, None, ⊤}
 use Rattle.std.specs.List.{list_all}
 use Rattle.std.specs.Option.{option_to_list, unwrap_or}
-use Rattle.mon_types.specs.Calls.{call_name, call_args}
-use Rattle.mon_types.specs.Built.{is_built_call}
+use Rattle.mon_types.specs.Calls.{call_name, call_args, call_of_registers}
 use Rattle.mon_types.specs.declared.call.Call.{Call}
 use Rattle.mon_types.specs.declared.call.Call.TheVariants as calls
 use Rattle.mon_types.specs.declared.script.Line.{Line}
@@ -39,39 +38,74 @@ AreWords text (word ∷ words) = (rest : List ℕ) × IsFirstWord text word rest
 
 -- ---- lines
 
--- `os` may stand for this argument of the call, counted from 0: the second argument of assign alone
+-- the word stands for the argument at this place, counted from 0; `os` may stand where os_there says so
+abbrev pub IsArgument : (ℕ → Bool) → ℕ → List ℕ → ℕ → Type 0
+IsArgument os_there place word n = IsNumber word n ⊎ ((os_there place ≡ true) × (word ≡ codes "os") × (n ≡ os_word))
+
+-- the words stand for the arguments from this place on
+abbrev pub AreArguments : (ℕ → Bool) → ℕ → List (List ℕ) → List ℕ → Type 0
+AreArguments os_there place [] [] = ⊤
+AreArguments os_there place [] (n ∷ ns) = ⊥
+AreArguments os_there place (word ∷ words) [] = ⊥
+AreArguments os_there place (word ∷ words) (n ∷ ns) = IsArgument os_there place word n × AreArguments os_there (place + 1) words ns
+
+-- the words are these numbers, none of them `os`
+abbrev pub AreNumbers : List (List ℕ) → List ℕ → Type 0
+AreNumbers words ns = AreArguments (λ place. false) 0 words ns
+
+-- `os` may stand for this argument of the call: the second argument of assign alone
 abbrev pub is_owner_place : Call → ℕ → Bool
 is_owner_place (calls.Assign r to) place = place == 1
 is_owner_place call place = false
 
--- the word stands for this argument of the call
-abbrev pub IsArgument : Call → ℕ → List ℕ → ℕ → Type 0
-IsArgument call place word n = IsNumber word n ⊎ ((is_owner_place call place ≡ true) × (word ≡ codes "os") × (n ≡ os_word))
+-- a call that a line may name: one of the 22 that a number stands for, without aex, which the machine alone makes
+abbrev pub is_named_call : Call → Bool
+is_named_call (calls.Aex saved) = false
+is_named_call (calls.Unknown number args) = false
+is_named_call call = true
 
--- the words stand for the arguments from this place on
-abbrev pub AreArguments : Call → ℕ → List (List ℕ) → List ℕ → Type 0
-AreArguments call place [] [] = ⊤
-AreArguments call place [] (n ∷ ns) = ⊥
-AreArguments call place (word ∷ words) [] = ⊥
-AreArguments call place (word ∷ words) (n ∷ ns) = IsArgument call place word n × AreArguments call (place + 1) words ns
-
--- the words are the name of the call and its arguments
+-- the words are the name of the call and exactly its arguments
 pub record IsCallLine (words : List (List ℕ)) (call : Call) : Type 0 where
-  pub built : is_built_call call ≡ true
+  pub named : is_named_call call ≡ true
   pub args : List (List ℕ)
   pub words_are : words ≡ call_name call ∷ args
-  pub are_arguments : AreArguments call 0 args (call_args call)
+  pub are_arguments : AreArguments (is_owner_place call) 0 args (call_args call)
 
--- what the words of a line stand for; so far no words, or a call that is built
+-- the words are `ecall`, a number, and 0 to 6 further numbers; the call is the one of that number with those, and 0 for each that is missing: those for which it has no use are dropped, and where the number stands for no call it is Unknown with all six
+pub record IsEcallLine (words : List (List ℕ)) (call : Call) : Type 0 where
+  pub number : ℕ
+  pub args : List ℕ
+  pub numbers : List (List ℕ)
+  pub words_are : words ≡ codes "ecall" ∷ numbers
+  pub are_numbers : AreNumbers numbers (number ∷ args)
+  pub few : length args ≤ 6
+  pub call_is : call ≡ call_of_registers number (args ++ replicate (6 - length args) 0)
+
+-- the words are `pc` and a multiple of 4
+pub record IsPcLine (words : List (List ℕ)) (pc : ℕ) : Type 0 where
+  pub numbers : List (List ℕ)
+  pub words_are : words ≡ codes "pc" ∷ numbers
+  pub are_numbers : AreNumbers numbers (pc ∷ [])
+  pub whole : pc % 4 ≡ 0
+
+-- the words are `reg`, a number from 1 to 31, and a word of 64 bits
+pub record IsRegLine (words : List (List ℕ)) (x value : ℕ) : Type 0 where
+  pub numbers : List (List ℕ)
+  pub words_are : words ≡ codes "reg" ∷ numbers
+  pub are_numbers : AreNumbers numbers (x ∷ value ∷ [])
+  pub from : 1 ≤ x
+  pub to : x ≤ 31
+
+-- what the words of a line stand for: no words, a call by its name or by its number, tick, pc or reg; so far no run, load or store
 abbrev pub StandsFor : List (List ℕ) → Option Line → Type 0
 StandsFor words None = words ≡ []
-StandsFor words (Some (lines.Make call)) = IsCallLine words call
+StandsFor words (Some (lines.Make call)) = IsCallLine words call ⊎ IsEcallLine words call
 StandsFor words (Some (lines.Run n)) = ⊥
-StandsFor words (Some lines.Tick) = ⊥
+StandsFor words (Some lines.Tick) = words ≡ codes "tick" ∷ []
 StandsFor words (Some (lines.LoadWord va)) = ⊥
 StandsFor words (Some (lines.StoreWord va value)) = ⊥
-StandsFor words (Some (lines.SetPc pc)) = ⊥
-StandsFor words (Some (lines.SetReg x value)) = ⊥
+StandsFor words (Some (lines.SetPc pc)) = IsPcLine words pc
+StandsFor words (Some (lines.SetReg x value)) = IsRegLine words x value
 
 -- nothing, or a number sign and whatever follows
 abbrev pub IsComment : List ℕ → Type 0

@@ -1,12 +1,10 @@
 -- Reading a script line by line from the front, with the first fault that is met. All of it is this project's own.
-use Rattle.std.specs.Prelude.{ℕ, ◌+◌, nat_lt, ◌&&◌, if◌then◌else◌, List, [], ◌∷◌, ◌++◌, length, codes, Option, Some, None, Result, Ok, Err}
+use Rattle.std.specs.Prelude.{ℕ, ◌+◌, ◌-◌, nat_lt, ◌&&◌, if◌then◌else◌, List, [], ◌∷◌, ◌++◌, length, replicate, codes, Option, Some, None, Result, Ok, Err}
 use Rattle.std.specs.List.{list_all}
-use Rattle.std.specs.Option.{option_and_then, option_map, option_to_list}
+use Rattle.std.specs.Option.{option_and_then, option_map, option_to_list, ok_or}
 use Rattle.std.specs.Char.{is_ascii}
 use Rattle.std.specs.Str.{bytes_eq}
-use Rattle.mon_types.specs.declared.call.Call.{Call}
 use Rattle.mon_types.specs.declared.script.Line.{Line}
-use Rattle.mon_types.specs.declared.script.Line.TheVariants as lines
 use Rattle.script_read.specs.declared.form.Form.{Form}
 use Rattle.script_read.specs.declared.fault.LineKind.{LineKind}
 use Rattle.script_read.specs.declared.fault.LineKind.TheVariants as kinds
@@ -15,7 +13,7 @@ use Rattle.script_read.specs.declared.fault.ScriptFault.TheVariants as faults
 use Rattle.script_read.specs.Text.{lines_of, before_comment, words_of}
 use Rattle.script_read.specs.Numbers.{number_of}
 use Rattle.script_read.specs.Grammar.{limit, for_cores}
-use Rattle.script_read.specs.Forms.{os_word, arity, takes_os, form_call, form_named, is_later_word}
+use Rattle.script_read.specs.Forms.{os_word, least, most, takes_os, form_line, form_named, is_later_word}
 
 -- the number that an argument stands for
 abbrev pub argument_of : Form → ℕ → List ℕ → Option ℕ
@@ -27,36 +25,35 @@ arguments_of form place [] = Some []
 arguments_of form place (word ∷ words) =
     option_and_then (λ n. option_map (λ ns. n ∷ ns) (arguments_of form (place + 1) words)) (argument_of form place word)
 
--- the call of a form with these arguments, or that one of them is none
-abbrev pub with_arguments : Form → Option (List ℕ) → Result Call LineKind
-with_arguments form None = Err kinds.BadNumber
-with_arguments form (Some args) = Ok (form_call form args)
+-- these arguments, and zeros behind them up to this count
+abbrev pub with_zeros : ℕ → List ℕ → List ℕ
+with_zeros count args = args ++ replicate (count - length args) 0
 
--- the call of a form with the arguments that these words stand for
-abbrev pub call_with : Form → List (List ℕ) → Result Call LineKind
-call_with form words =
-    if nat_lt (length words) (arity form) then Err kinds.MissingWord
-    else if nat_lt (arity form) (length words) then Err kinds.ExtraWord
-    else with_arguments form (arguments_of form 0 words)
+-- the line of a form with these arguments, where each of them is one and may stand there
+abbrev pub line_with : Form → Option (List ℕ) → Option Line
+line_with form read = option_and_then (λ args. form_line form (with_zeros 7 args)) read
 
--- the same, where the first word names a form, and an unknown word where it names none
-abbrev pub call_in : Option Form → List (List ℕ) → Result Call LineKind
-call_in None words = Err kinds.UnknownWord
-call_in (Some form) words = call_with form words
+-- the line of a form with the arguments that these words stand for
+unfoldable pub form_read : Form → List (List ℕ) → Result Line LineKind
+form_read form words =
+    if nat_lt (length words) (least form) then Err kinds.MissingWord
+    else if nat_lt (most form) (length words) then Err kinds.ExtraWord
+    else ok_or (line_with form (arguments_of form 0 words)) kinds.BadNumber
 
--- the call of this name with the arguments that these words stand for
-unfoldable pub call_of : List ℕ → List (List ℕ) → Result Call LineKind
-call_of word words = call_in (form_named word) words
-
--- the line that makes the call, or what is wrong with it, at this number
-abbrev pub at_line : ℕ → Result Call LineKind → Result (Option Line) ScriptFault
-at_line n (Ok call) = Ok (Some (lines.Make call))
+-- the line, or what is wrong with it, at this number
+abbrev pub at_line : ℕ → Result Line LineKind → Result (Option Line) ScriptFault
+at_line n (Ok line) = Ok (Some line)
 at_line n (Err kind) = Err (faults.BadLine n kind)
+
+-- the line of the form that the first word names, and an unknown word where it names none
+abbrev pub line_in : ℕ → Option Form → List (List ℕ) → Result (Option Line) ScriptFault
+line_in n None words = Err (faults.BadLine n kinds.UnknownWord)
+line_in n (Some form) words = at_line n (form_read form words)
 
 -- what the words of the line of this number stand for
 unfoldable pub line_of_words : ℕ → List (List ℕ) → Result (Option Line) ScriptFault
 line_of_words n [] = Ok None
-line_of_words n (word ∷ words) = if is_later_word word then Err (faults.NotBuilt n) else at_line n (call_of word words)
+line_of_words n (word ∷ words) = if is_later_word word then Err (faults.NotBuilt n) else line_in n (form_named word) words
 
 -- what the line of this number stands for
 unfoldable pub line_of : ℕ → List ℕ → Result (Option Line) ScriptFault

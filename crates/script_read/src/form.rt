@@ -1,59 +1,62 @@
 //! The first words of lines.
 
-ghost use Rattle.std.specs.Prelude.{◌≡◌};
+ghost use Rattle.std.specs.Prelude.{◌≡◌, ◌≤◌, IfSome};
 ghost use Rattle.std.specs.List.{find, list_any};
 ghost use Rattle.std.specs.Str.{bytes_eq};
-ghost use Rattle.script_read.specs.Forms.{form_name, arity, takes_os, form_call, form_named, is_later_word};
+ghost use Rattle.script_read.specs.Forms.{form_name, least, most, takes_os, form_line, pc_line, reg_line, form_named, is_later_word};
 
-use mon_types::Call;
+use mon_types::{Call, Line};
 
-/// The lines that are carried out so far, each of one call.
+/// The lines that are carried out so far, by what follows their first word.
 #[derive(Clone, Copy, Debug, PartialEq, Eq)]
 pub enum Form {
-    Block,
-    Free,
-    Assign,
-    Flush,
-    RegionInfo,
+    /// The name of the call of this number, then exactly so many arguments.
+    Named(u64, usize),
+    /// `ecall`, the number of a call, and up to six arguments.
+    Ecall,
+    /// `tick` alone.
+    Tick,
+    /// `pc` and an address.
+    SetPc,
+    /// `reg`, the number of a register, and a word.
+    SetReg,
 }
 
-/// All forms.
-const FORMS: [Form; 5] = [
-    Form::Block,
-    Form::Free,
-    Form::Assign,
-    Form::Flush,
-    Form::RegionInfo,
+/// The number of the call `assign`.
+const ASSIGN: u64 = 3;
+
+/// All forms. Of the calls only 15 has no line of its own, since the machine alone makes it.
+const FORMS: [Form; 26] = [
+    Form::Named(1, 1),
+    Form::Named(2, 1),
+    Form::Named(ASSIGN, 2),
+    Form::Named(4, 0),
+    Form::Named(5, 1),
+    Form::Named(6, 3),
+    Form::Named(7, 4),
+    Form::Named(8, 5),
+    Form::Named(9, 4),
+    Form::Named(10, 1),
+    Form::Named(11, 2),
+    Form::Named(12, 1),
+    Form::Named(13, 2),
+    Form::Named(14, 0),
+    Form::Named(16, 0),
+    Form::Named(17, 2),
+    Form::Named(18, 6),
+    Form::Named(19, 1),
+    Form::Named(20, 1),
+    Form::Named(21, 1),
+    Form::Named(22, 1),
+    Form::Named(23, 4),
+    Form::Ecall,
+    Form::Tick,
+    Form::SetPc,
+    Form::SetReg,
 ];
 
 /// The first words of the lines that are not carried out yet.
-const LATER: [&str; 25] = [
-    "core",
-    "run",
-    "tick",
-    "load",
-    "store",
-    "pc",
-    "reg",
-    "ecall",
-    "create",
-    "load_table",
-    "load_page",
-    "load_thread",
-    "init",
-    "delete_thread",
-    "delete",
-    "enter",
-    "exit",
-    "restore",
-    "accept",
-    "send",
-    "read",
-    "enclave_info",
-    "set_satp",
-    "accept_region",
-    "reserve",
-];
+const LATER: [&str; 4] = ["core", "run", "load", "store"];
 
 /// Whether the word is the first of a line that is not carried out yet.
 #[tactic(auto, unfolding(crate::specs::Forms::later_words))]
@@ -72,7 +75,8 @@ fn is_among(names: &[&str], word: &[u8]) -> bool
 impl Form {
     /// The form of the lines that begin with this word.
     pub fn of_word(word: &[u8]) -> Option<Form>
-        ensures { result ≡ form_named word.now }
+        ensures form { result ≡ form_named word.now }
+        ensures few { IfSome result (λ form. most form ≤ 7) }
     {
         Form::among(&FORMS, word)
     }
@@ -93,22 +97,33 @@ impl Form {
         ensures { result.now ≡ form_name self.now }
     {
         match self {
-            Form::Block => "block",
-            Form::Free => "free",
-            Form::Assign => "assign",
-            Form::Flush => "flush",
-            Form::RegionInfo => "region_info",
+            Form::Named(number, _) => Call::of_registers(*number, [0; 6]).name(),
+            Form::Ecall => "ecall",
+            Form::Tick => "tick",
+            Form::SetPc => "pc",
+            Form::SetReg => "reg",
         }
     }
 
-    /// How many arguments a line of this form has.
-    pub fn arity(self) -> usize
-        ensures { result ≡ arity self }
+    /// How many arguments a line of this form has at least.
+    pub fn least(self) -> usize
+        ensures { result ≡ least self }
     {
         match self {
-            Form::Block | Form::Free | Form::RegionInfo => 1,
-            Form::Assign => 2,
-            Form::Flush => 0,
+            Form::Named(_, arity) => arity,
+            Form::Ecall | Form::SetPc => 1,
+            Form::Tick => 0,
+            Form::SetReg => 2,
+        }
+    }
+
+    /// How many arguments a line of this form has at most.
+    pub fn most(self) -> usize
+        ensures { result ≡ most self }
+    {
+        match self {
+            Form::Ecall => 7,
+            Form::Named(_, _) | Form::Tick | Form::SetPc | Form::SetReg => self.least(),
         }
     }
 
@@ -117,24 +132,47 @@ impl Form {
         ensures { result ≡ takes_os self place }
     {
         match self {
-            Form::Assign => place == 1,
-            Form::Block | Form::Free | Form::Flush | Form::RegionInfo => false,
+            Form::Named(number, _) => number == ASSIGN && place == 1,
+            Form::Ecall | Form::Tick | Form::SetPc | Form::SetReg => false,
         }
     }
 
-    /// The call with these arguments, behind which the array goes on.
-    pub fn call(self, args: &[u64; 6]) -> Call
-        ensures { result ≡ form_call self args.now }
+    /// The line with these arguments, behind which zeros stand. Numbers for which the line has no use
+    /// are dropped. None where the address of `pc` is no multiple of 4, and where the register of `reg`
+    /// is none of x1 to x31.
+    pub fn line(self, args: &[u64; 7]) -> Option<Line>
+        ensures { result ≡ form_line self args.now }
     {
+        let [a, b, c, d, e, f, g] = *args;
         match self {
-            Form::Block => Call::Block { r: args[0] },
-            Form::Free => Call::Free { r: args[0] },
-            Form::Assign => Call::Assign {
-                r: args[0],
-                to: args[1],
-            },
-            Form::Flush => Call::Flush,
-            Form::RegionInfo => Call::RegionInfo { r: args[0] },
+            Form::Named(number, _) => {
+                let call = Call::of_registers(number, [a, b, c, d, e, f]);
+                Some(Line::Make(call))
+            }
+            Form::Ecall => Some(Line::Make(Call::of_registers(a, [b, c, d, e, f, g]))),
+            Form::Tick => Some(Line::Tick),
+            Form::SetPc => pc_line(a),
+            Form::SetReg => reg_line(a, b),
         }
+    }
+}
+
+fn pc_line(pc: u64) -> Option<Line>
+    ensures { result ≡ pc_line pc }
+{
+    if pc % 4 == 0 {
+        Some(Line::SetPc(pc))
+    } else {
+        None
+    }
+}
+
+fn reg_line(x: u64, value: u64) -> Option<Line>
+    ensures { result ≡ reg_line x value }
+{
+    if (1..=31).contains(&x) {
+        Some(Line::SetReg(x as u8, value))
+    } else {
+        None
     }
 }

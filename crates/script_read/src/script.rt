@@ -6,7 +6,7 @@ ghost use Rattle.sm_ports.specs.Causes.{Rose};
 ghost use Rattle.script_read.specs.Text.{lines_of};
 ghost use Rattle.script_read.specs.Grammar.{core_count, for_cores, limit, IsScript};
 ghost use Rattle.script_read.specs.Reading.{lines_from, all_lines, script_of};
-ghost use Rattle.script_read.specs.Answers.{Gives, FileFound, FileOnly, FileExact, widened, AreBuilt, AreFew};
+ghost use Rattle.script_read.specs.Answers.{Gives, FileFound, FileOnly, FileExact, widened, AreFew};
 
 use crate::fault::{ParseError, ScriptError, ScriptFault};
 use crate::line::read_line;
@@ -34,7 +34,6 @@ pub fn read_script<D: Depot>(
     ensures found { FileFound (D.contents depot.old name.now) cores result }
     ensures only { FileOnly (D.contents depot.old name.now) cores result }
     ensures exact { FileExact (D.contents depot.old name.now) cores result }
-    ensures built { IfOk result (λ s. AreBuilt s.cores) }
     ensures count { IfOk result (λ s. length s.cores ≡ core_count cores) }
     ensures few { IfOk result (λ s. AreFew s.cores) }
     ensures read { (failed : Failed) → result ≡ Err (ScriptError.Read failed) → Rose (D.faults depot.old name.now) (D.faults depot.new name.now) }
@@ -52,7 +51,6 @@ fn read<D: Depot>(
 ) -> Result<Script, ScriptError>
     requires { IfSome cores (λ count. 1 ≤ count) }
     ensures exact { FileExact (D.contents depot.old name.now) cores result }
-    ensures built { IfOk result (λ s. AreBuilt s.cores) }
     ensures count { IfOk result (λ s. length s.cores ≡ core_count cores) }
     ensures few { IfOk result (λ s. AreFew s.cores) }
     ensures read { (failed : Failed) → result ≡ Err (ScriptError.Read failed) → Rose (D.faults depot.old name.now) (D.faults depot.new name.now) }
@@ -89,7 +87,6 @@ pub fn parse_script(alloc: Global, bytes: &[u8], cores: Option<u8>) -> Result<Sc
     ensures only { (script : List (List Line)) → IsScript cores bytes.now script → Gives (λ s. s.cores) result (Ok script) }
     // Which fault it is.
     ensures exact { Gives (λ s. s.cores) result (script_of cores bytes.now) }
-    ensures built { IfOk result (λ s. AreBuilt s.cores) }
     ensures count { IfOk result (λ s. length s.cores ≡ core_count cores) }
     ensures few { IfOk result (λ s. AreFew s.cores) }
 {

@@ -6,6 +6,18 @@ use sm_ports::MapDepot;
 use std::alloc::{AllocError, Global};
 use std::test::Fail;
 
+/// The line of a script that has one.
+fn only_line(alloc: Global, text: &[u8]) -> Option<Line> {
+    let script = parse_script(alloc, text, None).ok()?;
+    let [lines] = script.cores.as_slice() else {
+        return None;
+    };
+    match lines.as_slice() {
+        [line] => Some(*line),
+        _ => None,
+    }
+}
+
 /// What is wrong with a script; the empty text where nothing is.
 fn fault(alloc: Global, text: &[u8]) -> Result<String, AllocError> {
     match parse_script(alloc, text, None) {
@@ -41,7 +53,23 @@ fn the_first_fault_is_named(rt: HostRuntime) -> Result<(), Fail> {
         (b"block 0x10000000000000000", "script line 1 bad number"),
         (b"flush\nrun", "script line 2 not built"),
         (b"core 99 x", "script line 1 not built"),
-        (b"reserve", "script line 1 not built"),
+        (b"load", "script line 1 not built"),
+        (b"store 1", "script line 1 not built"),
+        (b"reserve 1 2 x", "script line 1 missing word"),
+        (b"send 1 2 3 4 5 6 x", "script line 1 extra word"),
+        (b"accept os 1", "script line 1 bad number"),
+        (b"ecall", "script line 1 missing word"),
+        (b"ecall 1 2 3 4 5 6 7 x", "script line 1 extra word"),
+        (b"ecall 3 1 os", "script line 1 bad number"),
+        (b"tick x", "script line 1 extra word"),
+        (b"pc", "script line 1 missing word"),
+        (b"pc x 4", "script line 1 extra word"),
+        (b"pc 2", "script line 1 bad number"),
+        (b"reg x", "script line 1 missing word"),
+        (b"reg 1 2 x", "script line 1 extra word"),
+        (b"reg 0 1", "script line 1 bad number"),
+        (b"reg 32 1", "script line 1 bad number"),
+        (b"reg x1 1", "script line 1 bad number"),
     ] {
         assert_eq!(rt; fault(alloc, text)?.as_str(), want);
     }
@@ -72,6 +100,66 @@ fn lines_are_read(rt: HostRuntime) -> Result<(), Fail> {
         .as_slice()
     );
     assert!(rt; lists[1].is_empty() && lists[2].is_empty());
+    Ok(())
+}
+
+#[test]
+fn calls_are_named(rt: HostRuntime) -> Result<(), Fail> {
+    let alloc = rt.alloc();
+    for (number, text) in [
+        (1, b"block 1".as_slice()),
+        (2, b"free 1"),
+        (3, b"assign 1 2"),
+        (4, b"flush"),
+        (5, b"region_info 1"),
+        (6, b"create 1 2 3"),
+        (7, b"load_table 1 2 3 4"),
+        (8, b"load_page 1 2 3 4 5"),
+        (9, b"load_thread 1 2 3 4"),
+        (10, b"init 1"),
+        (11, b"delete_thread 1 2"),
+        (12, b"delete 1"),
+        (13, b"enter 1 2"),
+        (14, b"exit"),
+        (16, b"restore"),
+        (17, b"accept 1 2"),
+        (18, b"send 1 2 3 4 5 6"),
+        (19, b"read 1"),
+        (20, b"enclave_info 1"),
+        (21, b"set_satp 1"),
+        (22, b"accept_region 1"),
+        (23, b"reserve 1 2 3 4"),
+    ] {
+        let call = Call::of_registers(number, [1, 2, 3, 4, 5, 6]);
+        assert_eq!(rt; only_line(alloc, text), Some(Line::Make(call)));
+    }
+    Ok(())
+}
+
+#[test]
+fn other_lines_are_read(rt: HostRuntime) -> Result<(), Fail> {
+    let alloc = rt.alloc();
+    let unknown = |number, args| Line::Make(Call::Unknown { number, args });
+    for (text, line) in [
+        (b"ecall 99".as_slice(), unknown(99, [0; 6])),
+        (b"ecall 15 7", unknown(15, [7, 0, 0, 0, 0, 0])),
+        (b"ecall 0 1 2 3 4 5 6", unknown(0, [1, 2, 3, 4, 5, 6])),
+        (b"ecall 1 8 9 9 9 9 9", Line::Make(Call::Block { r: 8 })),
+        (b"ecall 3 8", Line::Make(Call::Assign { r: 8, to: 0 })),
+        (b"ecall 0xE", Line::Make(Call::Exit)),
+        (
+            b"set_satp 0x8000100000000000",
+            Line::Make(Call::SetSatp {
+                v: 0x8000_1000_0000_0000,
+            }),
+        ),
+        (b"tick", Line::Tick),
+        (b"pc 0x80000004", Line::SetPc(0x8000_0004)),
+        (b"reg 1 0", Line::SetReg(1, 0)),
+        (b"reg 31 0xffffffffffffffff", Line::SetReg(31, u64::MAX)),
+    ] {
+        assert_eq!(rt; only_line(alloc, text), Some(line));
+    }
     Ok(())
 }
 
