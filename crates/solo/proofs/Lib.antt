@@ -1,3 +1,7 @@
-pub mod Runs
+pub mod Pages
+pub mod Paths
+pub mod Done
+pub mod Made
 pub mod Loop
+pub mod Runs
 pub mod Whole

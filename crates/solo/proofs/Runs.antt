@@ -1,11 +1,12 @@
--- What the machine of one core logs is a legal history, and follows its script.
-use Rattle.std.proofs.Common.{◌≡◌, ℕ, ◌+◌, ◌-◌, Bool, true, false, cond, List, [], ◌∷◌, refl, sym, ap, subst, ◌∙◌, inl, inr, arith}
-use Rattle.std.specs.Prelude.{nat_lt}
+-- What the machine of one core logs is a legal history that leads to its state.
+use Rattle.std.proofs.Common.{◌≡◌, ℕ, ◌+◌, ◌<◌, Bool, true, false, cond, List, [], ◌∷◌, ◌++◌, length, None, is_some, refl, sym, ap, subst, ◌∙◌, arith}
 use Rattle.std.specs.List.{AllByRecursion}
-use Rattle.std.proofs.lemmas.Bool.{cases_Bool, true≢false, lt-ltb, le-ltb}
-use Rattle.std.proofs.lemmas.List.{append-nil}
+use Rattle.std.proofs.lemmas.Grind.{flat_map-append}
+use Rattle.std.proofs.lemmas.List.{append-nil, length-append}
 use Rattle.mon_types.specs.Shape.{Shape}
-use Rattle.mon_types.specs.Built.{is_built_call}
+use Rattle.mon_types.specs.declared.image.Start.{Start}
+use Rattle.mon_types.specs.declared.thread.Mode.{Mode}
+use Rattle.mon_types.specs.declared.thread.Mode.TheVariants as modes
 use Rattle.mon_types.specs.declared.call.Call.{Call}
 use Rattle.mon_types.specs.declared.call.Call.TheVariants as calls
 use Rattle.mon_types.specs.declared.script.Line.{Line}
@@ -14,45 +15,66 @@ use Rattle.mon_model.specs.State.{State, start}
 use Rattle.mon_model.specs.Replies.{is_done}
 use Rattle.mon_model.specs.EveryReply.{reply_has, never_met}
 use Rattle.mon_model.specs.EveryStep.{after_shape}
-use Rattle.mon_model.specs.Step.{reply_of, after}
+use Rattle.mon_model.specs.Step.{reply_of, effect, after}
 use Rattle.hist.specs.declared.event.Entry.{Entry}
 use Rattle.hist.specs.declared.event.Event.{Event}
 use Rattle.hist.specs.declared.event.Event.TheVariants as events
 use Rattle.hist.specs.declared.event.Why.TheVariants as whys
-use Rattle.hist.specs.Logged.{Logged}
-use Rattle.hist.specs.History.{entries_of, placed, in_ticket_order, history, after_entry, after_entries}
-use Rattle.hist.specs.Legal.{AreTickets, AreOwn, AreLegalEntries, IsLegalEntry, Legal, is_load_page}
+use Rattle.hist.specs.History.{entry_in, entries_of, digest_of, after_entry, after_entries}
+use Rattle.hist.specs.Legal.{AreTickets, AreOwn, AreLegalEntries, IsLegalEntry, is_load_page}
 use Rattle.report.specs.Calls.{HasFewWords, IsPrintable}
-use Rattle.solo.specs.Solo.{Core, core_start, event_budget, line_needs, no_digest, entry_of, core_after, events_from, core_from}
-use Rattle.solo.specs.Follows.{Follows}
-use Rattle.solo.specs.Carried.{AreBuilt}
+use Rattle.solo.specs.Solo.{Core, core_start, mode_now, entry_places, page_input, digest_for, entry_of, called, tick_cause, ticked, pc_set, reg_set, core_after, is_spent, stopped, core_from}
+use Rattle.solo.specs.Context.{saved_words}
 
--- ---- one list of entries in ticket order
+-- ---- one more entry behind others
 
-placed_first : (e : Entry) (es : List Entry) (k : ℕ) → e.ticket ≡ k → AreTickets (k + 1) es → placed e es ≡ e ∷ es
-placed_first e [] k t h = refl
-placed_first e (x ∷ xs) k t h =
-    let lt : nat_lt e.ticket x.ticket ≡ true = lt-ltb e.ticket x.ticket (omega (arith, t, h.0)) in
-    ap (λ (b : Bool). cond b (e ∷ x ∷ xs) (x ∷ placed e xs)) lt
+all_more : {X : Type 0} (P : X → Type 0) (xs : List X) (x : X) → AllByRecursion P xs → P x → AllByRecursion P (xs ++ x ∷ [])
+all_more P [] x all here = (here, tt)
+all_more P (y ∷ xs) x all here = (all.0, all_more P xs x all.1 here)
 
-pub ordered : (k : ℕ) (es : List Entry) → AreTickets k es → in_ticket_order es ≡ es
-ordered k [] h = refl
-ordered k (e ∷ es) h = ap (placed e) (ordered (k + 1) es h.1) ∙ placed_first e es k h.0 h.1
+tickets_more : (k : ℕ) (es : List Entry) (e : Entry) → AreTickets k es → e.ticket ≡ k + length es → AreTickets k (es ++ e ∷ [])
+tickets_more k [] e tickets next = (omega (arith, next), tt)
+tickets_more k (x ∷ es) e tickets next = (tickets.0, tickets_more (k + 1) es e tickets.1 (omega (arith, next)))
 
--- ---- one line
+-- tickets that follow one another ascend
+own_more : (core serial before k : ℕ) (es : List Entry) (e : Entry) → AreTickets k es → before < k → AreOwn core serial before es
+    → e.core ≡ core → e.serial ≡ serial + length es → e.ticket ≡ k + length es → AreOwn core serial before (es ++ e ∷ [])
+own_more core serial before k [] e tickets lt own same at next = (record { core = same; serial = omega (arith, at); ascends = omega (arith, next, lt) }, tt)
+own_more core serial before k (x ∷ es) e tickets lt own same at next =
+    (own.0, own_more core (serial + 1) x.ticket (k + 1) es e tickets.1 (omega (arith, tickets.0)) own.1 same (omega (arith, at)) (omega (arith, next)))
 
-built_no_page : (call : Call) → is_built_call call ≡ true → is_load_page call ≡ false
-built_no_page (calls.LoadPage e va page src perms) h = absurd (true≢false (sym h))
-built_no_page _ h = refl
+legal_more : (s : State) (es : List Entry) (e : Entry) → AreLegalEntries s es → IsLegalEntry (after_entries s es) e → AreLegalEntries s (es ++ e ∷ [])
+legal_more s [] e legal here = (here, tt)
+legal_more s (x ∷ es) e legal here = (legal.0, legal_more (after_entry s x) es e legal.1 here)
 
-after_is : (c : Core) (call : Call) → after_entry c.state (entry_of c call) ≡ (core_after c (lines.Make call)).state
-after_is c call = ap (λ (b : Bool). cond b c.state (after c.state 0 call no_digest (c.made + 1))) (never_met c.state 0 call)
+after_more : (s : State) (es : List Entry) (e : Entry) → after_entries s (es ++ e ∷ []) ≡ after_entry (after_entries s es) e
+after_more s [] e = refl
+after_more s (x ∷ es) e = after_more (after_entry s x) es e
 
-entry_legal : (c : Core) (call : Call) → is_built_call call ≡ true → IsLegalEntry c.state (entry_of c call)
-entry_legal c call h = record {
+-- ---- one call
+
+-- the digest that an entry shows is the one that the monitor was given
+digest_is : (words : List ℕ) (call : Call) (at : ℕ) → digest_of (page_input words call at) ≡ digest_for words call
+digest_is words (calls.LoadPage e va page src perms) at = refl
+digest_is words _ at = refl
+
+-- where the reply is not Ok, neither shows nor matters
+shown_digest : (b : Bool) (s : State) (call : Call) (words : List ℕ) (at k : ℕ) → cond b (effect s 0 call (digest_of (cond b (page_input words call at) None)) k) s ≡ cond b (effect s 0 call (digest_for words call) k) s
+shown_digest true s call words at k = ap (λ (digest : List ℕ). effect s 0 call digest k) (digest_is words call at)
+shown_digest false s call words at k = refl
+
+-- a page is shown exactly by a load_page that answers Ok
+shown_page : (b : Bool) (words : List ℕ) (call : Call) (at : ℕ) → is_some (cond b (page_input words call at) None) ≡ cond (is_load_page call) b false
+shown_page true words (calls.LoadPage e va page src perms) at = refl
+shown_page true words _ at = refl
+shown_page false words (calls.LoadPage e va page src perms) at = refl
+shown_page false words _ at = refl
+
+entry_legal : (c : Core) (call : Call) → IsLegalEntry c.state (entry_of c call)
+entry_legal c call = record {
   reply = λ _. refl;
   tried = λ _. refl;
-  page = sym (ap (λ (b : Bool). cond b (is_done (reply_of c.state 0 call)) false) (built_no_page call h));
+  page = shown_page (is_done (reply_of c.state 0 call)) c.words call (length c.answers + length (entry_places c call));
 }
 
 few_words : (s : State) (core : ℕ) (call : Call) → HasFewWords (reply_of s core call)
@@ -68,109 +90,94 @@ few_words s core call = reply_has HasFewWords (record {
   unsupported = tt;
 }) s core call
 
-entry_printable : (c : Core) (call : Call) → is_built_call call ≡ true → IsPrintable (entry_of c call)
-entry_printable c call h = record { few = few_words c.state 0 call; page = (entry_legal c call h).page }
+entry_printable : (c : Core) (call : Call) → IsPrintable (entry_of c call)
+entry_printable c call = record { few = few_words c.state 0 call; page = (entry_legal c call).page }
 
--- ---- all lines
+-- the entry leads to the state after the call
+after_is : (c : Core) (call : Call) → after_entry c.state (entry_of c call) ≡ (called c call).state
+after_is c call =
+    ap (λ (b : Bool). cond b c.state (after c.state 0 call (digest_of (entry_of c call).page) (c.made + 1))) (never_met c.state 0 call)
+    ∙ shown_digest (is_done (reply_of c.state 0 call)) c.state call c.words (length c.answers + length (entry_places c call)) (c.made + 1)
 
-abbrev pub entries_from : Core → ℕ → List Line → List Entry
-entries_from c n script = entries_of (events_from c n script)
+-- ---- the core at any time
 
-abbrev pub spent : Core → Bool
-spent c = nat_lt (event_budget - c.logged) line_needs
+-- So many entries of core 0 are a legal history that leads from a machine's start to this state, and each has a line in a report.
+pub record IsHistory (shape : Shape) (made : ℕ) (s : State) (es : List Entry) : Type 0 where
+  pub count : length es ≡ made
+  pub tickets : AreTickets 1 es
+  pub own : AreOwn 0 0 0 es
+  pub legal : AreLegalEntries (start shape) es
+  pub state : after_entries (start shape) es ≡ s
+  pub printable : AllByRecursion IsPrintable es
+  pub machine : s.shape ≡ shape
 
--- what holds of no entries and of each line's holds of all
-pub record Step (c : Core) (n : ℕ) (call : Call) (rest : List Line) : Type 0 where
-  pub stops : spent c ≡ true → events_from c n (lines.Make call ∷ rest) ≡ events.Stop n whys.Limit ∷ []
-  pub goes : spent c ≡ false → events_from c n (lines.Make call ∷ rest) ≡ events.Entry (entry_of c call) ∷ events_from (core_after c (lines.Make call)) (n + 1) rest
-  pub stays : spent c ≡ true → core_from c (lines.Make call ∷ rest) ≡ c
-  pub moves : spent c ≡ false → core_from c (lines.Make call ∷ rest) ≡ core_from (core_after c (lines.Make call)) rest
+abbrev pub HasHistory : Shape → Core → Type 0
+HasHistory shape c = IsHistory shape c.made c.state (entries_of c.log)
 
-pub step : (c : Core) (n : ℕ) (call : Call) (rest : List Line) → Step c n call rest
-unfolding events_from core_from
-step c n call rest = record {
-  stops = λ h. ap (λ (b : Bool). cond b (events.Stop n whys.Limit ∷ []) (events.Entry (entry_of c call) ∷ events_from (core_after c (lines.Make call)) (n + 1) rest)) h;
-  goes = λ h. ap (λ (b : Bool). cond b (events.Stop n whys.Limit ∷ []) (events.Entry (entry_of c call) ∷ events_from (core_after c (lines.Make call)) (n + 1) rest)) h;
-  stays = λ h. ap (λ (b : Bool). cond b c (core_from (core_after c (lines.Make call)) rest)) h;
-  moves = λ h. ap (λ (b : Bool). cond b c (core_from (core_after c (lines.Make call)) rest)) h;
-}
+at_start : (shape : Shape) (first : Start) → HasHistory shape (core_start shape first)
+at_start shape first = record { count = refl; tickets = tt; own = tt; legal = tt; state = refl; printable = tt; machine = refl }
 
-pub none_logged : (c : Core) (n : ℕ) → events_from c n [] ≡ []
-unfolding events_from
-none_logged c n = refl
-
-pub none_moved : (c : Core) → core_from c [] ≡ c
-unfolding core_from
-none_moved c = refl
-
--- Everything that is said of the entries of a script.
-pub record Entered (c : Core) (n : ℕ) (script : List Line) (log : List Event) (last : Core) : Type 0 where
-  pub tickets : AreTickets (c.made + 1) (entries_of log)
-  pub own : AreOwn 0 c.made c.made (entries_of log)
-  pub legal : AreLegalEntries c.state (entries_of log)
-  pub state : after_entries c.state (entries_of log) ≡ last.state
-  pub follows : Follows n (event_budget - c.logged) script log
-  pub printable : AllByRecursion IsPrintable (entries_of log)
-  pub shape : last.state.shape ≡ c.state.shape
-
-entered_none : (c : Core) (n : ℕ) → Entered c n [] [] c
-entered_none c n = record { tickets = tt; own = tt; legal = tt; state = refl; follows = refl; printable = tt; shape = refl }
-
-entered_limit : (c : Core) (n : ℕ) (line : Line) (rest : List Line) → spent c ≡ true → Entered c n (line ∷ rest) (events.Stop n whys.Limit ∷ []) c
-entered_limit c n line rest h = record {
-  tickets = tt;
-  own = tt;
-  legal = tt;
-  state = refl;
-  follows = (λ _. refl, λ le. absurd (true≢false (sym h ∙ le-ltb _ _ le)));
-  printable = tt;
-  shape = refl;
-}
-
-entered_more : (c : Core) (n : ℕ) (call : Call) (rest : List Line) (log : List Event) (last : Core) → is_built_call call ≡ true → spent c ≡ false → Entered (core_after c (lines.Make call)) (n + 1) rest log last
-    → Entered c n (lines.Make call ∷ rest) (events.Entry (entry_of c call) ∷ log) last
-entered_more c n call rest log last b h e = record {
-  tickets = (refl, e.tickets);
-  own = (record { core = refl; serial = refl; ascends = omega arith }, e.own);
-  legal = (entry_legal c call b, subst (λ (s : State). AreLegalEntries s (entries_of log)) (sym (after_is c call)) e.legal);
-  state = ap (λ (s : State). after_entries s (entries_of log)) (after_is c call) ∙ e.state;
-  follows = (λ lt. absurd (true≢false (sym (lt-ltb _ _ lt) ∙ h)), λ le. (entry_of c call, log, refl, refl, subst (λ (left : ℕ). Follows (n + 1) left rest log) (omega arith) e.follows));
-  printable = (entry_printable c call b, e.printable);
-  shape = e.shape ∙ after_shape c.state 0 call no_digest (c.made + 1);
-}
-
-pub entered : (c : Core) (n : ℕ) (script : List Line) → AreBuilt script → Entered c n script (events_from c n script) (core_from c script)
-entered c n [] b =
-    subst (λ (log : List Event). Entered c n [] log (core_from c [])) (sym (none_logged c n)) (subst (λ (last : Core). Entered c n [] [] last) (sym (none_moved c)) (entered_none c n))
-entered c n (lines.Make call ∷ rest) b =
-    let t = step c n call rest in
-    elim (cases_Bool (spent c)) [
-      | inl h ↦
-          subst (λ (log : List Event). Entered c n (lines.Make call ∷ rest) log (core_from c (lines.Make call ∷ rest))) (sym (t.stops h))
-          (subst (λ (last : Core). Entered c n (lines.Make call ∷ rest) (events.Stop n whys.Limit ∷ []) last) (sym (t.stays h)) (entered_limit c n (lines.Make call) rest h))
-      | inr h ↦
-          subst (λ (log : List Event). Entered c n (lines.Make call ∷ rest) log (core_from c (lines.Make call ∷ rest))) (sym (t.goes h))
-          (subst (λ (last : Core). Entered c n (lines.Make call ∷ rest) (events.Entry (entry_of c call) ∷ events_from (core_after c (lines.Make call)) (n + 1) rest) last) (sym (t.moves h))
-          (entered_more c n call rest (events_from (core_after c (lines.Make call)) (n + 1) rest) (core_from (core_after c (lines.Make call)) rest) b.0 h (entered (core_after c (lines.Make call)) (n + 1) rest b.1)))
-    ]
-entered c n (lines.Run turns ∷ rest) b = absurd (true≢false (sym b.0))
-entered c n (lines.Tick ∷ rest) b = absurd (true≢false (sym b.0))
-entered c n (lines.LoadWord va ∷ rest) b = absurd (true≢false (sym b.0))
-entered c n (lines.StoreWord va value ∷ rest) b = absurd (true≢false (sym b.0))
-entered c n (lines.SetPc pc ∷ rest) b = absurd (true≢false (sym b.0))
-entered c n (lines.SetReg x value ∷ rest) b = absurd (true≢false (sym b.0))
-
--- ---- one log
-
--- a machine of one core has the entries of its log as its history
-pub history_of_one : (log : Logged) → AreTickets 1 (entries_of log.events) → history (log ∷ []) ≡ entries_of log.events
-history_of_one log t = ap in_ticket_order (append-nil (entries_of log.events)) ∙ ordered 1 (entries_of log.events) t
-
-pub legal_log : (shape : Shape) (script : List Line) (log : Logged) → AreBuilt script → log.events ≡ events_from (core_start shape) 1 script → Legal shape (log ∷ [])
-legal_log shape script log b is =
-    let e : Entered (core_start shape) 1 script log.events (core_from (core_start shape) script) = subst (λ (x : List Event). Entered (core_start shape) 1 script x (core_from (core_start shape) script)) (sym is) (entered (core_start shape) 1 script b) in
+one_more : (shape : Shape) (c : Core) (call : Call) (es : List Entry) → IsHistory shape c.made c.state es → IsHistory shape (c.made + 1) (called c call).state (es ++ entry_of c call ∷ [])
+one_more shape c call es h =
+    let e : Entry = entry_of c call in
+    let next : e.ticket ≡ 1 + length es = omega (arith, h.count) in
     record {
-      tickets = subst (AreTickets 1) (sym (history_of_one log e.tickets)) e.tickets;
-      own = (e.own, tt);
-      entries = subst (AreLegalEntries (start shape)) (sym (history_of_one log e.tickets)) e.legal;
+      count = omega (arith, length-append es (e ∷ []), h.count);
+      tickets = tickets_more 1 es e h.tickets next;
+      own = own_more 0 0 0 1 es e h.tickets (omega arith) h.own refl (omega (arith, h.count)) next;
+      legal = legal_more (start shape) es e h.legal (subst (λ (s : State). IsLegalEntry s e) (sym h.state) (entry_legal c call));
+      state = after_more (start shape) es e ∙ ap (λ (s : State). after_entry s e) h.state ∙ after_is c call;
+      printable = all_more IsPrintable es e h.printable (entry_printable c call);
+      machine = after_shape c.state 0 call (digest_for c.words call) (c.made + 1) ∙ h.machine;
     }
+
+-- the entries of a log with one more event
+grown : (log : List Event) (event : Event) → entries_of (log ++ event ∷ []) ≡ entries_of log ++ entry_in event
+grown log event = flat_map-append entry_in log (event ∷ []) ∙ ap (λ (es : List Entry). entries_of log ++ es) (append-nil (entry_in event))
+
+after_call : (shape : Shape) (c : Core) (call : Call) → HasHistory shape c → HasHistory shape (called c call)
+after_call shape c call h =
+    subst (λ (es : List Entry). IsHistory shape (c.made + 1) (called c call).state es) (sym (grown c.log (events.Entry (entry_of c call)))) (one_more shape c call (entries_of c.log) h)
+
+-- an event that is no entry is none of the history
+after_event : (shape : Shape) (c : Core) (event : Event) → entry_in event ≡ [] → HasHistory shape c → HasHistory shape (record c { log = c.log ++ event ∷ [] })
+after_event shape c event none h =
+    subst (λ (es : List Entry). IsHistory shape c.made c.state es) (sym (grown c.log event ∙ ap (λ (es : List Entry). entries_of c.log ++ es) none ∙ append-nil (entries_of c.log))) h
+
+-- ---- the lines of a script
+
+after_tick : (shape : Shape) (mode : Mode) (c : Core) → HasHistory shape c → HasHistory shape (ticked mode c)
+after_tick shape modes.Os c h = h
+after_tick shape (modes.Inside e t) c h = after_call shape c (calls.Aex (saved_words c.context tick_cause)) h
+
+after_pc : (shape : Shape) (mode : Mode) (c : Core) (pc : ℕ) → HasHistory shape c → HasHistory shape (pc_set mode c pc)
+after_pc shape modes.Os c pc h = h
+after_pc shape (modes.Inside e t) c pc h = h
+
+after_reg : (shape : Shape) (mode : Mode) (c : Core) (x value : ℕ) → HasHistory shape c → HasHistory shape (reg_set mode c x value)
+after_reg shape modes.Os c x value h = h
+after_reg shape (modes.Inside e t) c x value h = h
+
+after_line : (shape : Shape) (c : Core) (line : Line) → HasHistory shape c → HasHistory shape (core_after c line)
+after_line shape c (lines.Make call) h = after_call shape c call h
+after_line shape c (lines.Run turns) h = h
+after_line shape c lines.Tick h = after_tick shape (mode_now c) c h
+after_line shape c (lines.LoadWord va) h = h
+after_line shape c (lines.StoreWord va value) h = h
+after_line shape c (lines.SetPc pc) h = after_pc shape (mode_now c) c pc h
+after_line shape c (lines.SetReg x value) h = after_reg shape (mode_now c) c x value h
+
+-- what holds of both holds of the one that is chosen
+chosen : (P : Core → Type 0) (b : Bool) (x y : Core) → P x → P y → P (cond b x y)
+chosen P true x y p q = p
+chosen P false x y p q = q
+
+after_lines : (shape : Shape) (c : Core) (n : ℕ) (script : List Line) → HasHistory shape c → HasHistory shape (core_from c n script)
+unfolding core_from
+after_lines shape c n [] h = h
+after_lines shape c n (line ∷ rest) h =
+    chosen (HasHistory shape) (is_spent c) (stopped c n) (core_from (core_after c line) (n + 1) rest)
+    (after_event shape c (events.Stop n whys.Limit) refl h) (after_lines shape (core_after c line) (n + 1) rest (after_line shape c line h))
+
+pub has_history : (shape : Shape) (first : Start) (script : List Line) → HasHistory shape (core_from (core_start shape first) 1 script)
+has_history shape first script = after_lines shape (core_start shape first) 1 script (at_start shape first)

@@ -1,87 +1,93 @@
--- What a finished run of the plain machine owes, from its log and its tables.
-use Rattle.std.proofs.Common.{◌≡◌, List, [], ◌∷◌, length, sym, ap, subst, ◌∙◌, arith}
+-- What the finished run of one core owes, from the history of its core.
+use Rattle.std.proofs.Common.{◌≡◌, ℕ, ◌+◌, ◌-◌, Bool, true, cond, List, [], ◌∷◌, length, refl, sym, ap, subst, ◌∙◌, arith}
+use Rattle.std.specs.Prelude.{nat_lt}
 use Rattle.std.specs.List.{AllByRecursion}
-use Rattle.mon_types.specs.Shape.{Shape, plain}
+use Rattle.std.proofs.lemmas.Bool.{lt-ltb}
+use Rattle.std.proofs.lemmas.List.{append-nil}
+use Rattle.mon_types.specs.Shape.{Shape}
+use Rattle.mon_types.specs.declared.image.Start.{Start}
 use Rattle.mon_types.specs.declared.script.Line.{Line}
 use Rattle.mon_model.specs.State.{State, start}
-use Rattle.mon_seq.specs.Sequential.{Sequential}
 use Rattle.mon_seq.specs.Tables.{AreTables}
-use Rattle.hist.specs.declared.event.Event.{Event}
+use Rattle.hist.specs.declared.event.Entry.{Entry}
 use Rattle.hist.specs.declared.finished.Finished.{Finished}
 use Rattle.hist.specs.Logged.{Logged}
-use Rattle.hist.specs.History.{entries_of, history, after_entries, last_state}
-use Rattle.hist.specs.Legal.{Legal}
+use Rattle.hist.specs.History.{entries_of, placed, in_ticket_order, history, after_entries, last_state}
+use Rattle.hist.specs.Legal.{AreTickets, AreLegalEntries, Legal, HasLastTables}
 use Rattle.hist.specs.Laws.{LegalLogsMerge}
 use Rattle.hist.specs.Merging.{CanMerge}
 use Rattle.report.specs.Calls.{IsPrintable}
 use Rattle.report.specs.Report.{HasAllCores, ArePrintable}
-use Rattle.solo.specs.Solo.{Core, core_start, core_at, events_from, core_from}
-use Rattle.solo.specs.Follows.{IsLogOf, IsRunOf}
-use Rattle.solo.specs.Carried.{AreBuilt, IsCarriedOut, lines_of_core_0}
-use Rattle.solo.proofs.Runs.{Entered, entered, history_of_one, legal_log}
+use Rattle.solo.specs.Solo.{Core, core_start, event_budget, core_from, finished_by, solo_run}
+use Rattle.solo.proofs.Runs.{HasHistory, has_history}
 
--- the tables of a finished run are those of this state
-pub record HasTables (f : Finished) (s : State) : Type 0 where
-  pub regions : f.regions ≡ s.regions
-  pub enclaves : f.enclaves ≡ s.enclaves
-  pub threads : f.threads ≡ s.threads
-  pub flushed : f.flushed ≡ s.flushed
-  pub modes : f.modes ≡ s.modes
+-- ---- one list of entries in ticket order
 
-pub record WholeRun (script : List Line) (f : Finished) : Type 0 where
-  pub run : IsRunOf script f
+placed_first : (e : Entry) (es : List Entry) (k : ℕ) → e.ticket ≡ k → AreTickets (k + 1) es → placed e es ≡ e ∷ es
+placed_first e [] k t h = refl
+placed_first e (x ∷ xs) k t h =
+    let lt : nat_lt e.ticket x.ticket ≡ true = lt-ltb e.ticket x.ticket (omega (arith, t, h.0)) in
+    ap (λ (b : Bool). cond b (e ∷ x ∷ xs) (x ∷ placed e xs)) lt
+
+ordered : (k : ℕ) (es : List Entry) → AreTickets k es → in_ticket_order es ≡ es
+ordered k [] h = refl
+ordered k (e ∷ es) h = ap (placed e) (ordered (k + 1) es h.1) ∙ placed_first e es k h.0 h.1
+
+-- a machine of one core has the entries of its log as its history
+history_of_one : (log : Logged) → AreTickets 1 (entries_of log.events) → history (log ∷ []) ≡ entries_of log.events
+history_of_one log t = ap in_ticket_order (append-nil (entries_of log.events)) ∙ ordered 1 (entries_of log.events) t
+
+-- ---- the whole run
+
+-- what the finished run of a script owes
+pub record WholeRun (shape : Shape) (first : Start) (script : List Line) (f : Finished) : Type 0 where
+  pub run : f ≡ solo_run shape first script
+  pub legal : Legal f.config f.logs
+  pub tables : HasLastTables f
   pub cores : HasAllCores f
   pub printable : ArePrintable f.logs
   pub merge : CanMerge f.logs
 
-abbrev begun : Core
-begun = core_start (plain 1)
+abbrev log_of : Core → Logged
+log_of c = record { events = c.log; spare = event_budget - length c.log }
 
-entered_log : (script : List Line) (log : Logged) → AreBuilt script → log.events ≡ events_from begun 1 script → Entered begun 1 script log.events (core_from begun script)
-entered_log script log b is = subst (λ (x : List Event). Entered begun 1 script x (core_from begun script)) (sym is) (entered begun 1 script b)
-
-pub whole_run : LegalLogsMerge → (f : Finished) (script : List Line) (log : Logged) (s : State) → AreBuilt script → f.config ≡ plain 1 → f.logs ≡ log ∷ []
-    → log.events ≡ events_from begun 1 script → s ≡ (core_from begun script).state → HasTables f s → AreTables s → WholeRun script f
-whole_run merge f script log s b machine logs is at t sound =
-    let e : Entered begun 1 script log.events (core_from begun script) = entered_log script log b is in
-    let one : history (log ∷ []) ≡ entries_of log.events = history_of_one log e.tickets in
-    let last : last_state (plain 1) (log ∷ []) ≡ (core_from begun script).state = ap (after_entries (start (plain 1))) one ∙ e.state in
-    let same : s ≡ last_state f.config f.logs =
-    at ∙ sym last ∙ ap (λ (l : List Logged). last_state (plain 1) l) (sym logs) ∙ ap (λ (shape : Shape). last_state shape f.logs) (sym machine) in
-    let single : f.config.cores ≡ 1 = ap (λ (shape : Shape). shape.cores) machine in
-    let shaped : s.shape.cores ≡ 1 = ap (λ (x : State). x.shape.cores) at ∙ ap (λ (shape : Shape). shape.cores) e.shape in
-    let legal : Legal f.config f.logs = subst (λ (shape : Shape). Legal shape f.logs) (sym machine) (subst (λ (l : List Logged). Legal (plain 1) l) (sym logs) (legal_log (plain 1) script log b is)) in
+legal_log : (c : Core) → HasHistory c.state.shape c → Legal c.state.shape (log_of c ∷ [])
+legal_log c h =
+    let one : history (log_of c ∷ []) ≡ entries_of c.log = history_of_one (log_of c) h.tickets in
     record {
-      run = record {
-        machine = machine;
-        log = subst (IsLogOf script) (sym logs) e.follows;
-        legal = legal;
-        tables = record {
-          regions = t.regions ∙ ap (λ (x : State). x.regions) same;
-          enclaves = t.enclaves ∙ ap (λ (x : State). x.enclaves) same;
-          threads = t.threads ∙ ap (λ (x : State). x.threads) same;
-          flushed = t.flushed ∙ ap (λ (x : State). x.flushed) same;
-          modes = t.modes ∙ ap (λ (x : State). x.modes) same;
-        };
-      };
-      cores = record {
-        logs = ap length logs ∙ sym single;
-        flushed = ap length t.flushed ∙ sound.flushed ∙ shaped ∙ sym single;
-        modes = ap length t.modes ∙ sound.modes ∙ shaped ∙ sym single;
-      };
-      printable = subst ArePrintable (sym logs) (subst (λ es. AllByRecursion IsPrintable es) (sym one) e.printable);
-      merge = merge f.config f.logs (omega (arith, ap length logs)) legal;
+      tickets = subst (AreTickets 1) (sym one) h.tickets;
+      own = (h.own, tt);
+      entries = subst (AreLegalEntries (start c.state.shape)) (sym one) h.legal;
     }
 
--- The same, from what opening, running and finishing leave.
-pub solo_run : LegalLogsMerge → (f : Finished) (cores : List (List Line)) (script : List Line) (log : Logged) (before after : Sequential) (shape : Shape) → IsCarriedOut cores → shape ≡ plain 1 → script ≡ lines_of_core_0 cores
-    → before ≡ record { state = start shape; ticket = 0 } → f.config ≡ shape → f.logs ≡ log ∷ []
-    → log.events ≡ events_from (core_at before.state 0) 1 script → after.state ≡ (core_from (core_at before.state 0) script).state
-    → HasTables f after.state → AreTables after.state → WholeRun (lines_of_core_0 cores) f
-solo_run merge f cores script log before after shape carried plain_is script_is fresh machine logs logged at t sound =
-    let state_is : before.state ≡ start (plain 1) = ap (λ (m : Sequential). m.state) fresh ∙ ap start plain_is in
-    let built : AreBuilt script = subst AreBuilt (sym script_is) carried.built in
-    subst (λ (lines : List Line). WholeRun lines f) script_is
-    (whole_run merge f script log after.state built (machine ∙ plain_is) logs
-    (logged ∙ ap (λ (s : State). events_from (core_at s 0) 1 script) state_is)
-    (at ∙ ap (λ (s : State). (core_from (core_at s 0) script).state) state_is) t sound)
+last_tables : (c : Core) → HasHistory c.state.shape c → HasLastTables (finished_by c)
+last_tables c h =
+    let last : c.state ≡ last_state c.state.shape (log_of c ∷ []) = sym (ap (after_entries (start c.state.shape)) (history_of_one (log_of c) h.tickets) ∙ h.state) in
+    record {
+      regions = ap (λ (s : State). s.regions) last;
+      enclaves = ap (λ (s : State). s.enclaves) last;
+      threads = ap (λ (s : State). s.threads) last;
+      flushed = ap (λ (s : State). s.flushed) last;
+      modes = ap (λ (s : State). s.modes) last;
+    }
+
+of_core : LegalLogsMerge → (shape : Shape) (first : Start) (script : List Line) (c : Core) → c ≡ core_from (core_start shape first) 1 script → HasHistory c.state.shape c → c.state.shape.cores ≡ 1 → AreTables c.state
+    → WholeRun shape first script (finished_by c)
+of_core merge shape first script c is h single sound = record {
+  run = ap finished_by is;
+  legal = legal_log c h;
+  tables = last_tables c h;
+  cores = record { logs = sym single; flushed = sound.flushed; modes = sound.modes };
+  printable = subst (AllByRecursion IsPrintable) (sym (history_of_one (log_of c) h.tickets)) h.printable;
+  merge = merge c.state.shape (log_of c ∷ []) (omega arith) (legal_log c h);
+}
+
+-- The run of a script, from what opening, running and finishing leave.
+pub whole_run : LegalLogsMerge → (shape : Shape) (first begin : Start) (script lines : List Line) (opened ran : Core) (f : Finished) → shape.cores ≡ 1 → begin ≡ first → lines ≡ script
+    → opened ≡ core_start shape begin → ran ≡ core_from opened 1 lines → f ≡ finished_by ran → AreTables ran.state → WholeRun shape first script f
+whole_run merge shape first begin script lines opened ran f single begin_is lines_is begun ran_is left sound =
+    let is : ran ≡ core_from (core_start shape first) 1 script =
+    ran_is ∙ ap (λ (c : Core). core_from c 1 lines) (begun ∙ ap (core_start shape) begin_is) ∙ ap (core_from (core_start shape first) 1) lines_is in
+    let h : HasHistory shape ran = subst (HasHistory shape) (sym is) (has_history shape first script) in
+    subst (WholeRun shape first script) (sym left)
+    (of_core merge shape first script ran is (subst (λ (x : Shape). HasHistory x ran) (sym h.machine) h) (ap (λ (x : Shape). x.cores) h.machine ∙ single) sound)

@@ -1,3 +1,6 @@
+pub mod Context
+pub mod Memory
+pub mod Entries
 pub mod Solo
-pub mod Follows
-pub mod Carried
+pub mod Kept
+pub mod Given

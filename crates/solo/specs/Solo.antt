@@ -1,37 +1,85 @@
--- The machine of one core, said directly: what it logs for a script, line by line, with the sequential
--- monitor for calls. It has no moves and no locks. This project's own.
-use Rattle.std.specs.Prelude.{ℕ, ◌+◌, ◌-◌, nat_lt, if◌then◌else◌, List, [], ◌∷◌, ◌++◌, replicate, Option, Some, None}
-use Rattle.mon_types.specs.Shape.{Shape}
+-- The machine of one core, said directly: what a script makes of it, line by line, with the sequential monitor for calls, one list of words for DRAM, and two counts for the budget. It has no moves and no locks. This project's own.
+use Rattle.std.specs.Prelude.{ℕ, ◌+◌, ◌-◌, ◌*◌, Bool, nat_lt, ◌||◌, if◌then◌else◌, List, [], ◌∷◌, ◌++◌, map, length, replicate, slice_index, Option, Some, None}
+use Rattle.mon_types.specs.Shape.{Shape, page_total}
+use Rattle.mon_types.specs.declared.image.Start.{Start}
+use Rattle.mon_types.specs.declared.thread.Mode.{Mode}
+use Rattle.mon_types.specs.declared.thread.Mode.TheVariants as modes
 use Rattle.mon_types.specs.declared.call.Call.{Call}
+use Rattle.mon_types.specs.declared.call.Call.TheVariants as calls
+use Rattle.mon_types.specs.declared.reply.Reply.{Reply}
 use Rattle.mon_types.specs.declared.script.Line.{Line}
 use Rattle.mon_types.specs.declared.script.Line.TheVariants as lines
-use Rattle.mon_model.specs.State.{State, start}
-use Rattle.mon_model.specs.Step.{reply_of, after}
+use Rattle.mon_model.specs.State.{State, start, mode_of, thread_at}
+use Rattle.mon_model.specs.Replies.{is_done}
+use Rattle.mon_model.specs.Early.{early}
+use Rattle.mon_model.specs.Step.{own_thread, reply_of, after}
 use Rattle.mon_model.specs.Tries.{tries, tried_set}
+use Rattle.mon_model.specs.Measure.{page_digest}
+use Rattle.hist.specs.declared.event.PageInput.{PageInput}
 use Rattle.hist.specs.declared.event.Entry.{Entry}
 use Rattle.hist.specs.declared.event.Event.{Event}
 use Rattle.hist.specs.declared.event.Event.TheVariants as events
 use Rattle.hist.specs.declared.event.Why.TheVariants as whys
+use Rattle.hist.specs.declared.finished.Finished.{Finished}
+use Rattle.report.specs.Report.{report_text}
+use Rattle.solo.specs.declared.context.Context.{Context}
+use Rattle.solo.specs.Context.{begun, entered, returned, with_register, saved_words, restored}
+use Rattle.solo.specs.Memory.{word_at, page_of, copied, cleared}
+use Rattle.solo.specs.Entries.{held_places, table_to, leaf_to, put_entry}
 
--- how many events a core may log, and how many must be left before a line
-abbrev pub event_budget : ℕ
-event_budget = 16384
-
-abbrev pub line_needs : ℕ
-line_needs = 80
-
--- the core between two lines: the monitor's state, and how many calls it made and events it logged
+-- The core between two lines: the monitor's state; how many calls it made, which are all there are; its pc and registers; those of the OS, kept while it is inside an enclave; the words of DRAM; the words that loads gave it; and its log.
 pub record Core : Type 0 where
   pub state : State
   pub made : ℕ
-  pub logged : ℕ
+  pub context : Context
+  pub os : Context
+  pub words : List ℕ
+  pub answers : List ℕ
+  pub log : List Event
 
-abbrev pub core_start : Shape → Core
-core_start shape = record { state = start shape; made = 0; logged = 0 }
+-- at the start DRAM holds zeros
+abbrev pub core_start : Shape → Start → Core
+core_start shape first = record {
+  state = start shape;
+  made = 0;
+  context = begun first;
+  os = begun first;
+  words = replicate (512 * page_total shape) 0;
+  answers = [];
+  log = [];
+}
 
--- the digest that a call other than load_page is given
+-- for whom the core runs
+abbrev pub mode_now : Core → Mode
+mode_now c = mode_of c.state 0
+
+-- ---- a monitor call
+
+abbrev pub unless_early : Option Reply → List ℕ → List ℕ
+unless_early None places = places
+unless_early (Some refusal) places = []
+
+-- the places of the entries that the call reads, none where it is refused early
+abbrev pub entry_places : Core → Call → List ℕ
+entry_places c call = unless_early (early c.state.shape (mode_now c) call) (held_places c.state c.words call)
+
+-- the words that a load_page copies; other calls copy none
+abbrev pub source_words : List ℕ → Call → List ℕ
+source_words words (calls.LoadPage e va page src perms) = page_of words src
+source_words words _ = []
+
+-- the digest of these, zeros for other calls, which use none
 abbrev pub no_digest : List ℕ
 no_digest = replicate 32 0
+
+abbrev pub digest_for : List ℕ → Call → List ℕ
+digest_for words (calls.LoadPage e va page src perms) = page_digest (page_of words src)
+digest_for words _ = no_digest
+
+-- what the entry of a load_page that answers Ok says of the page: its digest, and the place of its first word among the answers
+abbrev pub page_input : List ℕ → Call → ℕ → Option PageInput
+page_input words (calls.LoadPage e va page src perms) at = Some record { digest = page_digest (page_of words src); at = at }
+page_input words _ at = None
 
 -- the entry of a call; the core's calls are all there are, so each draws the next ticket
 abbrev pub entry_of : Core → Call → Entry
@@ -40,58 +88,123 @@ entry_of c call = record {
   core = 0;
   serial = c.made;
   call = call;
-  page = None;
+  page = if is_done (reply_of c.state 0 call) then page_input c.words call (length c.answers + length (entry_places c call)) else None;
   reply = reply_of c.state 0 call;
   tried = tried_set (tries c.state 0 call);
 }
 
--- what a line logs; lines of a form that is not carried out yet log nothing
-abbrev pub events_of : Core → Line → List Event
-events_of c (lines.Make call) = events.Entry (entry_of c call) ∷ []
-events_of c (lines.Run turns) = []
-events_of c lines.Tick = []
-events_of c (lines.LoadWord va) = []
-events_of c (lines.StoreWord va value) = []
-events_of c (lines.SetPc pc) = []
-events_of c (lines.SetReg x value) = []
+-- the words that the call loads: the entries, and the source of a load_page that answers Ok
+abbrev pub loaded_by : Core → Call → List ℕ
+loaded_by c call =
+    map (word_at c.words) (entry_places c call) ++ (if is_done (reply_of c.state 0 call) then source_words c.words call else [])
 
--- the core after a line
+-- DRAM after Ok, where the entries at these places were read: zeros in each page of a region that is free now; the entry of a table, whose page is not written; a copy of the source page, and then its entry; the entry of a reserved page
+abbrev pub stored : Shape → Call → List ℕ → List ℕ → List ℕ
+stored shape (calls.Free r) places words = cleared shape r words (page_total shape)
+stored shape (calls.LoadTable e va level page) places words = put_entry places (table_to page) words
+stored shape (calls.LoadPage e va page src perms) places words = put_entry places (leaf_to page perms) (copied words src page)
+stored shape (calls.Reserve e va page perms) places words = put_entry places (leaf_to page perms) words
+stored shape _ places words = words
+
+-- pc and registers after Ok: enter begins the thread, exit and aex give back the OS's, restore takes what was saved, and no other call changes any
+abbrev pub switched : Core → Call → Context
+switched c (calls.Enter e t) = entered (thread_at c.state t)
+switched c calls.Exit = returned c.os 0 0 0
+switched c (calls.Aex saved) = returned c.os 1 (slice_index saved 32) 0
+switched c calls.Restore = restored (thread_at c.state (own_thread (mode_now c))).saved
+switched c _ = c.context
+
+-- enter keeps the OS's
+abbrev pub os_kept : Core → Call → Context
+os_kept c (calls.Enter e t) = c.context
+os_kept c _ = c.os
+
+-- the core after a call
+abbrev pub called : Core → Call → Core
+called c call =
+    let is_ok = is_done (reply_of c.state 0 call) in
+    record {
+      state = after c.state 0 call (digest_for c.words call) (c.made + 1);
+      made = c.made + 1;
+      context = if is_ok then switched c call else c.context;
+      os = if is_ok then os_kept c call else c.os;
+      words = if is_ok then stored c.state.shape call (entry_places c call) c.words else c.words;
+      answers = c.answers ++ loaded_by c call;
+      log = c.log ++ events.Entry (entry_of c call) ∷ [];
+    }
+
+-- ---- the lines of a script
+
+-- the cause of an exit by a tick
+abbrev pub tick_cause : ℕ
+tick_cause = 9223372036854775813
+
+-- a tick leaves the enclave; for the OS it does nothing
+abbrev pub ticked : Mode → Core → Core
+ticked modes.Os c = c
+ticked (modes.Inside e t) c = called c (calls.Aex (saved_words c.context tick_cause))
+
+-- the pc and a register are set for the OS alone
+abbrev pub pc_set : Mode → Core → ℕ → Core
+pc_set modes.Os c pc = record c { context = record c.context { pc = pc } }
+pc_set (modes.Inside e t) c pc = c
+
+abbrev pub reg_set : Mode → Core → ℕ → ℕ → Core
+reg_set modes.Os c x value = record c { context = with_register c.context x value }
+reg_set (modes.Inside e t) c x value = c
+
+-- the core after a line; lines of forms that are not carried out yet do nothing
 abbrev pub core_after : Core → Line → Core
-core_after c (lines.Make call) = record { state = after c.state 0 call no_digest (c.made + 1); made = c.made + 1; logged = c.logged + 1 }
+core_after c (lines.Make call) = called c call
 core_after c (lines.Run turns) = c
-core_after c lines.Tick = c
+core_after c lines.Tick = ticked (mode_now c) c
 core_after c (lines.LoadWord va) = c
 core_after c (lines.StoreWord va value) = c
-core_after c (lines.SetPc pc) = c
-core_after c (lines.SetReg x value) = c
+core_after c (lines.SetPc pc) = pc_set (mode_now c) c pc
+core_after c (lines.SetReg x value) = reg_set (mode_now c) c x value
 
--- The events of these lines, the first of which has number n: those of each line, up to a Limit at the
--- first line before which too few events are left.
-unfoldable pub events_from : Core → ℕ → List Line → List Event
-events_from c n [] = []
-events_from c n (line ∷ rest) =
-    if nat_lt (event_budget - c.logged) line_needs
-    then events.Stop n whys.Limit ∷ []
-    else events_of c line ++ events_from (core_after c line) (n + 1) rest
+-- how many events a core may log and how many answers it may be given, and how many of each must be left before a line
+abbrev pub event_budget : ℕ
+event_budget = 16384
 
--- the core after these lines, or before the first for which too few events are left
-unfoldable pub core_from : Core → List Line → Core
-core_from c [] = c
-core_from c (line ∷ rest) =
-    if nat_lt (event_budget - c.logged) line_needs
-    then c
-    else core_from (core_after c line) rest
+abbrev pub answer_budget : ℕ
+answer_budget = 1048576
 
--- the core in this state after so many calls, each of which logged one event
-abbrev pub core_at : State → ℕ → Core
-core_at s made = record { state = s; made = made; logged = made }
+abbrev pub line_events : ℕ
+line_events = 80
 
--- the call that a line makes, if it makes one
-abbrev pub call_in : Line → Option Call
-call_in (lines.Make call) = Some call
-call_in (lines.Run turns) = None
-call_in lines.Tick = None
-call_in (lines.LoadWord va) = None
-call_in (lines.StoreWord va value) = None
-call_in (lines.SetPc pc) = None
-call_in (lines.SetReg x value) = None
+abbrev pub line_answers : ℕ
+line_answers = 600
+
+abbrev pub is_spent : Core → Bool
+is_spent c = nat_lt (event_budget - length c.log) line_events || nat_lt (answer_budget - length c.answers) line_answers
+
+-- a Limit at line n
+abbrev pub stopped : Core → ℕ → Core
+stopped c n = record c { log = c.log ++ events.Stop n whys.Limit ∷ [] }
+
+-- The core after these lines, the first of which has number n: each is carried out, up to a Limit at the first line before which too little is left of a budget.
+unfoldable pub core_from : Core → ℕ → List Line → Core
+core_from c n [] = c
+core_from c n (line ∷ rest) = if is_spent c then stopped c n else core_from (core_after c line) (n + 1) rest
+
+-- what the core leaves
+abbrev pub finished_by : Core → Finished
+finished_by c = record {
+  config = c.state.shape;
+  logs = record { events = c.log; spare = event_budget - length c.log } ∷ [];
+  answers = c.answers ∷ [];
+  regions = c.state.regions;
+  enclaves = c.state.enclaves;
+  threads = c.state.threads;
+  flushed = c.state.flushed;
+  modes = c.state.modes;
+  words = c.words;
+}
+
+-- the finished run of these lines on a machine of one core that starts so, and its report
+abbrev pub solo_run : Shape → Start → List Line → Finished
+solo_run shape first script = finished_by (core_from (core_start shape first) 1 script)
+
+abbrev pub solo_report : Shape → Start → List Line → List ℕ
+solo_report shape first script = report_text (solo_run shape first script)

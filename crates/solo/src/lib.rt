@@ -1,7 +1,15 @@
 //! The machine of one core over the sequential monitor, without moves and locks.
 #![tactic(auto)]
 
+mod answers;
+mod calls;
+mod context;
+mod entries;
 mod lines;
+mod machine;
+mod memory;
 mod run;
+#[cfg(test)]
+mod tests;
 
 pub use run::solo;

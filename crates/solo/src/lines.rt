@@ -1,105 +1,109 @@
-//! What the core does with each line of its script.
+//! The lines of a script.
 
-ghost use Rattle.std.specs.Prelude.{◌≡◌, ◌<◌, ◌≤◌, ◌+◌, ◌-◌, [], ◌∷◌, ◌++◌, true, length, List};
-ghost use Rattle.std.specs.Option.{option_map};
-ghost use Rattle.std.specs.Borrow.{Bor};
-ghost use Rattle.mon_types.specs.declared.call.Call.{Call};
-ghost use Rattle.mon_types.specs.Built.{is_built_call, is_built_line};
-ghost use Rattle.mon_model.specs.Step.{after};
-ghost use Rattle.hist.specs.declared.event.Event.TheVariants as events;
-ghost use Rattle.solo.specs.Solo.{core_at, call_in, event_budget, no_digest, entry_of, events_of, core_after, events_from, core_from};
-ghost use Rattle.solo.specs.Carried.{AreBuilt};
+ghost use Rattle.std.specs.Prelude.{◌≡◌, ◌+◌, ◌≤◌, false, length};
+ghost use Rattle.solo.specs.Solo.{mode_now, ticked, pc_set, reg_set, core_after, event_budget, answer_budget, line_events, line_answers, is_spent, stopped, core_from};
 
-use hist::{Entry, Event, Log, Why};
-use mon_seq::Monitor;
-use mon_types::{Call, Line};
-
-/// How many events a core may log.
-pub const EVENT_BUDGET: u32 = 16384;
+use crate::answers::ANSWER_BUDGET;
+use crate::machine::Machine;
+use hist::{Event, Why};
+use mon_types::{Call, Line, Mode};
 
 /// How many events must be left before a line; a line logs fewer.
-const LINE_NEEDS: u32 = 80;
+const LINE_EVENTS: u32 = 80;
 
-/// The digest that a call other than load_page is given.
-const NO_DIGEST: [u8; 32] = [0; 32];
+/// How many answers must be left before a line, which may need as many.
+const LINE_ANSWERS: usize = 600;
 
-/// The call that a line makes, if it makes one.
-fn call_of(line: &Line) -> Option<&Call>
-    ensures { option_map (λ (call : Bor Call). call.now) result ≡ call_in line.now }
-{
-    match line {
-        Line::Make(call) => Some(call),
-        Line::Run(_) | Line::Tick | Line::LoadWord(_) => None,
-        Line::StoreWord(_, _) | Line::SetPc(_) | Line::SetReg(_, _) => None,
+/// The cause of an exit by a tick.
+const TICK_CAUSE: u64 = 9223372036854775813;
+
+impl Machine {
+    /// For whom the core runs.
+    fn mode(&self) -> Mode
+        ensures { result ≡ mode_now self.now }
+    {
+        self.monitor.modes()[0]
     }
-}
 
-/// Makes a call after `made` others, and logs it.
-fn make_call(log: &mut Log, monitor: &mut Monitor, made: u32, call: &Call)
-    requires core { 0 < monitor.old.state.shape.cores }
-    requires ticket { monitor.old.ticket ≡ made }
-    requires few { made ≤ 1048576 }
-    requires built { is_built_call call.now ≡ true }
-    requires room { 0 < log.old.spare }
-    ensures events { log.new.events ≡ log.old.events ++ events.Entry (entry_of (core_at monitor.old.state made) call.now) ∷ [] }
-    ensures spare { log.new.spare ≡ log.old.spare - 1 }
-    ensures state { monitor.new.state ≡ after monitor.old.state 0 call.now no_digest (made + 1) }
-    ensures ticket { monitor.new.ticket ≡ made + 1 }
-    ensures shape { monitor.new.state.shape ≡ monitor.old.state.shape }
-{
-    let tried = monitor.tries(0, call);
-    let reply = monitor.call(0, call, &NO_DIGEST);
-    log.add(Event::Entry(Entry {
-        ticket: made + 1,
-        core: 0,
-        serial: made,
-        call: *call,
-        page: None,
-        reply,
-        tried,
-    }));
-}
-
-/// Carries out a line after as many others as calls were made.
-fn carry_out(log: &mut Log, monitor: &mut Monitor, made: u32, line: &Line)
-    requires core { 0 < monitor.old.state.shape.cores }
-    requires ticket { monitor.old.ticket ≡ made }
-    requires few { made ≤ 1048576 }
-    requires built { is_built_line line.now ≡ true }
-    requires room { 0 < log.old.spare }
-    ensures events { log.new.events ≡ log.old.events ++ events_of (core_at monitor.old.state made) line.now }
-    ensures spare { log.new.spare ≡ log.old.spare - 1 }
-    ensures state { monitor.new.state ≡ (core_after (core_at monitor.old.state made) line.now).state }
-    ensures ticket { monitor.new.ticket ≡ made + 1 }
-    ensures shape { monitor.new.state.shape ≡ monitor.old.state.shape }
-{
-    match call_of(line) {
-        Some(call) => make_call(log, monitor, made, call),
-        None => {}
-    }
-}
-
-/// Carries out the lines of a script from the start, up to a Limit at the first line before which too
-/// few events are left.
-pub fn run_lines(log: &mut Log, monitor: &mut Monitor, script: &[Line])
-    requires core { 0 < monitor.old.state.shape.cores }
-    requires fresh { monitor.old.ticket ≡ 0 }
-    requires few { length script.now ≤ 1048576 }
-    requires built { AreBuilt script.now }
-    requires events { log.old.events ≡ [] }
-    requires room { log.old.spare ≡ event_budget }
-    ensures events { log.new.events ≡ events_from (core_at monitor.old.state 0) 1 script.now }
-    ensures state { monitor.new.state ≡ (core_from (core_at monitor.old.state 0) script.now).state }
-{
-    for (i, line) in script.iter().enumerate() {
-        let made = i as u32;
-        if log.spare() < LINE_NEEDS {
-            log.add(Event::Stop {
-                line: made + 1,
-                why: Why::Limit,
-            });
-            return;
+    /// Leaves the enclave, if the core is inside one.
+    fn tick(&mut self)
+        requires events { length self.old.log + line_events ≤ event_budget }
+        requires answers { length self.old.answers + line_answers ≤ answer_budget }
+        ensures { self.new ≡ ticked (mode_now self.old) self.old }
+    {
+        match self.mode() {
+            Mode::Os => {}
+            Mode::Inside { .. } => {
+                let saved = self.context.save(TICK_CAUSE);
+                self.make(&Call::Aex { saved });
+            }
         }
-        carry_out(log, monitor, made, line);
+    }
+
+    /// Sets the pc, for the OS alone.
+    fn set_pc(&mut self, pc: u64)
+        ensures { self.new ≡ pc_set (mode_now self.old) self.old pc }
+    {
+        if self.mode() == Mode::Os {
+            self.context.pc = pc;
+        }
+    }
+
+    /// Sets a register, for the OS alone.
+    fn set_reg(&mut self, x: u8, value: u64)
+        ensures { self.new ≡ reg_set (mode_now self.old) self.old x value }
+    {
+        if self.mode() == Mode::Os {
+            self.context.set(x, value);
+        }
+    }
+
+    /// Carries out a line.
+    fn carry_out(&mut self, line: &Line)
+        requires events { length self.old.log + line_events ≤ event_budget }
+        requires answers { length self.old.answers + line_answers ≤ answer_budget }
+        ensures { self.new ≡ core_after self.old line.now }
+    {
+        match line {
+            Line::Make(call) => self.make(call),
+            Line::Tick => self.tick(),
+            Line::SetPc(pc) => self.set_pc(*pc),
+            Line::SetReg(x, value) => self.set_reg(*x, *value),
+            Line::Run(_) | Line::LoadWord(_) | Line::StoreWord(_, _) => {}
+        }
+    }
+
+    /// Whether too little is left of a budget for one more line.
+    fn is_spent(&self) -> bool
+        ensures { result ≡ is_spent self.now }
+    {
+        self.log.spare() < LINE_EVENTS || ANSWER_BUDGET - LINE_ANSWERS < self.answers.len()
+    }
+
+    /// Logs a Limit at this line.
+    fn stop(&mut self, line: u32)
+        requires { length self.old.log + 1 ≤ event_budget }
+        ensures { self.new ≡ stopped self.old line }
+    {
+        self.log.add(Event::Stop {
+            line,
+            why: Why::Limit,
+        });
+    }
+
+    /// Carries out the lines of a script, up to a Limit at the first line before which too little is
+    /// left of a budget.
+    pub fn run(&mut self, script: &[Line])
+        requires few { length script.now ≤ 1048576 }
+        requires room { length self.old.log + line_events ≤ event_budget + 1 }
+        ensures { self.new ≡ core_from self.old 1 script.now }
+    {
+        for (i, line) in script.iter().enumerate() {
+            if self.is_spent() {
+                self.stop(i as u32 + 1);
+                return;
+            }
+            self.carry_out(line);
+        }
     }
 }

@@ -1,19 +1,18 @@
-use Rattle.std.proofs.Common.{◌∙◌}
-use Rattle.solo.proofs.Whole.{WholeRun, solo_run}
-use Rattle.solo.specs.Carried.{lines_of_core_0}
+use Rattle.solo.specs.Given.{lines_of_core_0, first_start}
+use Rattle.solo.proofs.Whole.{WholeRun, whole_run}
 use Rattle.solo.proofs.run.solo.Goals as goal
 
 pub returns : goal.returns
 returns c =
-    let e = c.finished.ensures in
-    let whole : WholeRun (lines_of_core_0 c.args.script.cores) c.finished.result =
-    solo_run c.legal_logs_merge.ensures c.finished.result c.args.script.cores c.lines_of.result.now c.run_lines.new.log c.in_ok-monitor.monitor c.run_lines.new.monitor c.args.image.now.config
-    c.requires.script c.requires.image.machine c.lines_of.ensures c.in_ok-monitor.ensures e.config e.logs c.run_lines.ensures.events c.run_lines.ensures.state
-    (record { regions = e.regions; enclaves = e.enclaves; threads = e.threads; flushed = e.flushed; modes = e.modes }) e.sound in
+    let image = c.args.image.now in
+    let cores = c.args.script.cores in
+    let whole : WholeRun image.config (first_start image.starts) (lines_of_core_0 cores) c.finish.result =
+    whole_run c.legal_logs_merge.ensures image.config (first_start image.starts) c.start_of.result (lines_of_core_0 cores) c.lines_of.result.now c.in_ok-machine.machine c.run.new.self c.finish.result c.requires.image.one
+    c.start_of.ensures c.lines_of.ensures c.in_ok-machine.ensures c.run.ensures c.finish.ensures.left c.finish.ensures.sound in
     record {
       run = whole.run;
-      words = e.words ∙ c.in_ok-words.ensures;
-      answers = e.answers ∙ c.in_ok-answers.ensures;
+      legal = whole.legal;
+      tables = whole.tables;
       cores = whole.cores;
       printable = whole.printable;
       merge = whole.merge;

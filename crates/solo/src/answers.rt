@@ -1,0 +1,70 @@
+//! The words that loads give a core.
+
+ghost use Rattle.std.specs.Prelude.{◌≡◌, ◌+◌, ◌-◌, ◌<◌, ◌≤◌, [], ◌∷◌, ◌++◌, length, IfOk};
+
+use mon_types::Items;
+use std::alloc::{AllocError, Global};
+use std::marker::Model;
+
+/// How many answers a core may be given.
+pub const ANSWER_BUDGET: usize = 1048576;
+
+/// The words that loads gave a core, with room for as many as it may be given, taken when the list was
+/// made. Contracts see the list of the words.
+#[derive(Debug, Drop)]
+pub struct Answers {
+    words: Vec<u64>,
+}
+
+impl Model for Answers {
+    ghost use Rattle.std.specs.Prelude.{ℕ, ◌≤◌, List, vec_capacity};
+
+    ghost Value = { List ℕ };
+
+    ghost view = { λ a. a.words.items };
+
+    ghost invariant = { λ a. 1048576 ≤ vec_capacity a.words };
+}
+
+impl Answers {
+    /// No words.
+    pub fn new(alloc: Global) -> Result<Answers, AllocError>
+        ensures { IfOk result (λ a. a ≡ []) }
+    {
+        Ok(Answers {
+            words: Vec::with_capacity(alloc, ANSWER_BUDGET)?,
+        })
+    }
+
+    /// How many words there are.
+    pub fn len(&self) -> usize
+        ensures { result ≡ length self.now }
+    {
+        self.words.len()
+    }
+
+    /// Appends a word. Takes no memory.
+    pub fn push(&mut self, word: u64)
+        requires { length self.old < 1048576 }
+        ensures { self.new ≡ self.old ++ word ∷ [] }
+    {
+        self.words.push_reserved(word);
+    }
+
+    /// Appends words. Takes no memory.
+    pub fn extend(&mut self, words: &[u64])
+        requires { length self.old + length words.now ≤ 1048576 }
+        ensures { self.new ≡ self.old ++ words.now }
+    {
+        for word in words {
+            self.push(*word);
+        }
+    }
+
+    /// The words. Takes no memory.
+    pub fn into_items(self) -> Items<u64>
+        ensures { result ≡ self }
+    {
+        Items::from_vec(self.words)
+    }
+}

@@ -1,0 +1,216 @@
+//! One monitor call.
+
+ghost use Rattle.std.specs.Prelude.{◌≡◌, ◌≢◌, ◌+◌, ◌*◌, ◌^◌, ◌<◌, ◌≤◌, [], ◌++◌, map, length, None, if◌then◌else◌};
+ghost use Rattle.mon_types.specs.Shape.{page_total};
+ghost use Rattle.mon_model.specs.State.{thread_at};
+ghost use Rattle.mon_model.specs.Replies.{is_done};
+ghost use Rattle.mon_model.specs.Step.{own_thread};
+ghost use Rattle.mon_model.specs.InRange.{IsInRange};
+ghost use Rattle.hist.specs.History.{digest_of};
+ghost use Rattle.solo.specs.Memory.{word_at};
+ghost use Rattle.solo.specs.Entries.{put_entry};
+ghost use Rattle.solo.specs.Solo.{entry_places, source_words, page_input, stored, switched, os_kept, called, event_budget, answer_budget, line_events, line_answers};
+
+use crate::answers::Answers;
+use crate::context::Context;
+use crate::entries::{entry_of_leaf, entry_of_table, page_number, places_read};
+use crate::machine::Machine;
+use crate::memory::Memory;
+use hist::{Entry, Event, PageInput};
+use mon_measure::page_digest;
+use mon_types::{Call, Config, Mode, Reply, Thread};
+
+/// The digest that a call other than load_page is given.
+const NO_DIGEST: [u8; 32] = [0; 32];
+
+fn is_ok(reply: &Reply) -> bool
+    ensures { result ≡ is_done reply.now }
+{
+    matches!(reply, Reply::Ok { .. })
+}
+
+/// The slot of the thread by which a core is inside an enclave; no call asks this of the OS.
+fn own_thread_of(mode: Mode) -> u8
+    ensures { result ≡ own_thread mode }
+{
+    match mode {
+        Mode::Os => 0,
+        Mode::Inside { thread, .. } => thread,
+    }
+}
+
+/// What a load_page is to read, where the entries at these places were read, after `given` answers; its
+/// page was refused before where there are none. Other calls read no page.
+fn input_of(
+    config: &Config,
+    memory: &Memory,
+    call: &Call,
+    places: &[u64],
+    given: usize,
+) -> Option<PageInput>
+    requires size { length memory.now ≡ 512 * page_total config.now }
+    requires pages { page_total config.now < 65536 }
+    requires range { places.now ≢ [] → IsInRange config.now call.now }
+    requires few { given + length places.now < 2 ^ 32 }
+    ensures read { places.now ≢ [] → result ≡ page_input memory.now call.now (given + length places.now) }
+    ensures none { places.now ≡ [] → result ≡ None }
+{
+    match *call {
+        Call::LoadPage { src, .. } if !places.is_empty() => Some(PageInput {
+            digest: page_digest(memory.page(page_number(config, src))),
+            at: (given + places.len()) as u32,
+        }),
+        _ => None,
+    }
+}
+
+/// A page is told of only where the call answered Ok.
+fn only_if(done: bool, input: Option<PageInput>) -> Option<PageInput>
+    ensures { result ≡ (if done then input else None) }
+{
+    if done { input } else { None }
+}
+
+/// The digest of the page that is read, zeros where none is.
+fn digest_in(input: &Option<PageInput>) -> [u8; 32]
+    ensures { result ≡ digest_of input.now }
+{
+    match input {
+        None => NO_DIGEST,
+        Some(page) => page.digest,
+    }
+}
+
+/// Gives the words at these places as answers.
+fn give_entries(answers: &mut Answers, memory: &Memory, places: &[u64])
+    requires { length answers.old + length places.now ≤ 1048576 }
+    ensures { answers.new ≡ answers.old ++ map (word_at memory.now) places.now }
+{
+    for place in places {
+        answers.push(memory.word(*place));
+    }
+}
+
+/// Gives the words of the page that a load_page copies.
+fn give_source(answers: &mut Answers, config: &Config, memory: &Memory, call: &Call)
+    requires size { length memory.now ≡ 512 * page_total config.now }
+    requires pages { page_total config.now < 65536 }
+    requires range { IsInRange config.now call.now }
+    requires room { length answers.old + 512 ≤ 1048576 }
+    ensures { answers.new ≡ answers.old ++ source_words memory.now call.now }
+{
+    if let Call::LoadPage { src, .. } = *call {
+        answers.extend(memory.page(page_number(config, src)));
+    }
+}
+
+/// Stores an entry at the last of these places.
+fn put_entry(memory: &mut Memory, places: &[u64], entry: u64)
+    ensures { memory.new ≡ put_entry places.now entry memory.old }
+{
+    memory.put(places.last().copied(), entry);
+}
+
+/// Stores what a call that answers Ok stores, where it read the entries at these places.
+fn store(config: &Config, memory: &mut Memory, call: &Call, places: &[u64])
+    requires size { length memory.old ≡ 512 * page_total config.now }
+    requires pages { page_total config.now < 65536 }
+    requires range { IsInRange config.now call.now }
+    ensures stored { memory.new ≡ stored config.now call.now places.now memory.old }
+    ensures size { length memory.new ≡ 512 * page_total config.now }
+{
+    match *call {
+        Call::Free { r } => memory.clear_region(config, r),
+        Call::LoadTable { page, .. } => put_entry(memory, places, entry_of_table(page)),
+        Call::LoadPage {
+            page,
+            src,
+            perms,
+            ..
+        } => {
+            memory.copy_page(page_number(config, src), page_number(config, page));
+            put_entry(memory, places, entry_of_leaf(page, perms));
+        }
+        Call::Reserve { page, perms, .. } => {
+            put_entry(memory, places, entry_of_leaf(page, perms));
+        }
+        _ => {}
+    }
+}
+
+impl Machine {
+    /// The pc and the registers after Ok.
+    fn switched(&self, call: &Call) -> Context
+        ensures { result ≡ switched self.now call.now }
+    {
+        match *call {
+            Call::Enter { t, .. } => Context::enter(&self.thread(t)),
+            Call::Exit => self.os.give_back(0, 0, 0),
+            Call::Aex { saved } => self.os.give_back(1, saved[32], 0),
+            Call::Restore => {
+                let own = own_thread_of(self.monitor.modes()[0]);
+                Context::restore(&self.thread(u64::from(own)).saved)
+            }
+            _ => self.context,
+        }
+    }
+
+    /// The record of a thread slot, an empty one past the last slot.
+    fn thread(&self, t: u64) -> Thread
+        ensures { result ≡ thread_at self.now.state t }
+    {
+        self.monitor
+            .threads()
+            .get(t as usize)
+            .copied()
+            .unwrap_or_default()
+    }
+
+    /// The OS's pc and registers after Ok.
+    fn os_kept(&self, call: &Call) -> Context
+        ensures { result ≡ os_kept self.now call.now }
+    {
+        match call {
+            Call::Enter { .. } => self.context,
+            _ => self.os,
+        }
+    }
+
+    /// Makes a call, and logs it.
+    pub fn make(&mut self, call: &Call)
+        requires events { length self.old.log + line_events ≤ event_budget }
+        requires answers { length self.old.answers + line_answers ≤ answer_budget }
+        ensures { self.new ≡ called self.old call.now }
+    {
+        let places = places_read(&self.config, &self.memory, &self.monitor, call);
+        let input = input_of(
+            &self.config,
+            &self.memory,
+            call,
+            &places,
+            self.answers.len(),
+        );
+        let context = self.switched(call);
+        let os = self.os_kept(call);
+        let tried = self.monitor.tries(0, call);
+        let reply = self.monitor.call(0, call, &digest_in(&input));
+        let done = is_ok(&reply);
+        self.log.add(Event::Entry(Entry {
+            ticket: self.made + 1,
+            core: 0,
+            serial: self.made,
+            call: *call,
+            page: only_if(done, input),
+            reply,
+            tried,
+        }));
+        self.made += 1;
+        give_entries(&mut self.answers, &self.memory, &places);
+        if done {
+            give_source(&mut self.answers, &self.config, &self.memory, call);
+            store(&self.config, &mut self.memory, call, &places);
+            self.context = context;
+            self.os = os;
+        }
+    }
+}

@@ -1,0 +1,92 @@
+//! The machine with one core.
+
+ghost use Rattle.std.specs.Prelude.{◌≡◌, ◌<◌, [], vec_len, vec_capacity, IfOk};
+ghost use Rattle.mon_seq.specs.Tables.{AreTables};
+ghost use Rattle.solo.specs.Solo.{core_start, finished_by};
+
+use crate::answers::Answers;
+use crate::context::Context;
+use crate::memory::Memory;
+use hist::{Finished, Log};
+use mon_seq::Monitor;
+use mon_types::{Config, Items, Start};
+use std::alloc::{AllocError, Global};
+use std::marker::Model;
+
+/// How many events a core may log.
+pub const EVENT_BUDGET: u32 = 16384;
+
+/// A machine with one core: its monitor, and how many calls were made; the core's pc and registers, and
+/// those of the OS, which are kept while the core is inside an enclave; DRAM; what loads gave the core,
+/// and its log.
+#[derive(Debug, Drop)]
+pub struct Machine {
+    pub config: Config,
+    pub monitor: Monitor,
+    pub made: u32,
+    pub context: Context,
+    pub os: Context,
+    pub memory: Memory,
+    pub answers: Answers,
+    pub log: Log,
+}
+
+impl Model for Machine {
+    ghost use Rattle.solo.specs.Solo.{Core};
+    ghost use Rattle.solo.specs.Kept.{IsKept};
+
+    ghost Value = { Core };
+
+    ghost view = { λ m. record { state = m.monitor.state; made = m.made; context = m.context; os = m.os; words = m.memory; answers = m.answers; log = m.log.events } };
+
+    ghost invariant = { λ m. IsKept m.config m.monitor m.made m.memory m.log };
+}
+
+impl Machine {
+    /// The machine at its start, where DRAM holds zeros. Takes all the memory that its lines will need.
+    pub fn new(alloc: Global, config: Config, start: &Start) -> Result<Machine, AllocError>
+        requires one { config.cores ≡ 1 }
+        ensures { IfOk result (λ m. m ≡ core_start config start.now) }
+    {
+        let monitor = Monitor::new(alloc, config)?;
+        let memory = Memory::new(alloc, &config)?;
+        let answers = Answers::new(alloc)?;
+        let log = Log::new(alloc, EVENT_BUDGET)?;
+        Ok(Machine {
+            config,
+            monitor,
+            made: 0,
+            context: Context::begin(start),
+            os: Context::begin(start),
+            memory,
+            answers,
+            log,
+        })
+    }
+
+    /// What the machine leaves. Takes no memory: the lists have room for the one log, and for the one
+    /// list of answers.
+    pub fn finish(self, mut logs: Vec<Log>, mut answers: Vec<Items<u64>>) -> Finished
+        requires no_logs { logs.items ≡ [] }
+        requires log_room { vec_len logs < vec_capacity logs }
+        requires no_answers { answers.items ≡ [] }
+        requires answer_room { vec_len answers < vec_capacity answers }
+        ensures left { result ≡ finished_by self }
+        ensures sound { AreTables self.state }
+    {
+        logs.push_reserved(self.log);
+        answers.push_reserved(self.answers.into_items());
+        let tables = self.monitor.into_tables();
+        Finished {
+            config: self.config,
+            logs: Items::from_vec(logs),
+            answers: Items::from_vec(answers),
+            regions: tables.regions,
+            enclaves: tables.enclaves,
+            threads: tables.threads,
+            flushed: tables.flushed,
+            modes: tables.modes,
+            words: self.memory.into_items(),
+        }
+    }
+}
