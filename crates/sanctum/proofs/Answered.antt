@@ -8,7 +8,7 @@ use Rattle.script_read.specs.Answers as read
 use Rattle.script_read.specs.declared.fault.ScriptFault.{ScriptFault}
 use Rattle.script_read.specs.declared.fault.ScriptError.{ScriptError}
 use Rattle.script_read.specs.declared.fault.ScriptError.TheVariants as errors
-use Rattle.solo.specs.Carried.{IsCarriedOut, lines_of_core_0}
+use Rattle.solo.specs.Given.{IsOneScript, lines_of_core_0}
 use Rattle.sanctum.specs.declared.words.Order.TheVariants as orders
 use Rattle.sanctum.specs.declared.status.Status.{Status}
 use Rattle.sanctum.specs.declared.status.Status.TheVariants as answers
@@ -16,9 +16,9 @@ use Rattle.sanctum.specs.Faults.{fault_line}
 use Rattle.sanctum.specs.Headline.{AreScript, HasFirstFault, Says, IsRunText, Prints, Ends}
 
 -- a script that was read for one core can be carried out
-pub carried : (cores : List (List Line)) → length cores ≡ 1 → read.AreBuilt cores → read.AreFew cores → IsCarriedOut cores
-carried [] one built few = absurd (omega (arith, one))
-carried (script ∷ others) one built few = record { one = one; few = few.0; built = built.0 }
+pub carried : (cores : List (List Line)) → length cores ≡ 1 → read.AreFew cores → IsOneScript cores
+carried [] one few = absurd (omega (arith, one))
+carried (script ∷ others) one few = record { one = one; few = few.0 }
 
 -- one list is the list of its first
 single : (cores : List (List Line)) → length cores ≡ 1 → cores ≡ lines_of_core_0 cores ∷ []
@@ -32,7 +32,7 @@ ends_as May Might before after result into e = record { intended = e.intended; t
 
 -- what a script's run prints, the program prints
 run_text : (told : Option (List ℕ)) (script : List Line) → AreScript told script → (intended : Status) (text : List ℕ) → IsRunText script intended text → Says orders.Script told intended text
-run_text told script s answers.Ok text t = record { script = script; finished = t.0; read = s; run = t.1; report = t.2 }
+run_text told script s answers.Ok text t = record { script = script; read = s; run = t }
 run_text told script s answers.Usage text t = absurd t
 run_text told script s (answers.ScriptRefused fault) text t = absurd t
 run_text told script s answers.ReadFault text t = absurd t

@@ -1,7 +1,8 @@
 -- What each answer of the program says. This project's own.
 use Rattle.std.specs.Prelude.{◌≡◌, ℕ, List, [], ◌∷◌, Option, Some, None, Err, IfSome, ◌⊎◌, ⊤}
 use Rattle.std.specs.Io.KnownBytes.{Appends}
-use Rattle.mon_types.specs.Shape.{Shape}
+use Rattle.mon_types.specs.Shape.{Shape, plain}
+use Rattle.mon_types.specs.declared.image.Start.{Start}
 use Rattle.mon_types.specs.declared.script.Line.{Line}
 use Rattle.hist.specs.declared.finished.Finished.{Finished}
 use Rattle.sm_ports.specs.Contents.{AppendsPart}
@@ -12,8 +13,8 @@ use Rattle.rv_asm.specs.Grammar.{IsText}
 use Rattle.rv_asm.specs.Reading.{statements_of}
 use Rattle.rv_asm.specs.declared.fault.AsmFault.{AsmFault}
 use Rattle.image_read.specs.Image.{image_text}
-use Rattle.report.specs.Report.{report_text}
-use Rattle.solo.specs.Follows.{IsRunOf}
+use Rattle.hist.specs.Legal.{Legal, HasLastTables}
+use Rattle.solo.specs.Solo.{solo_run, solo_report}
 use Rattle.sanctum.specs.declared.words.Order.{Order}
 use Rattle.sanctum.specs.declared.words.Order.TheVariants as orders
 use Rattle.sanctum.specs.declared.status.Status.{Status}
@@ -27,15 +28,25 @@ use Rattle.sanctum.specs.Faults.{fault_line}
 abbrev pub AreScript : Option (List ℕ) → List Line → Type 0
 AreScript told script = IfSome told (λ bytes. IsScript None bytes (script ∷ []))
 
--- The text is the report of a finished run of the script that the bytes are: its log has the script's
--- calls in order, it is a legal history of the sequential monitor, and its tables are those that the
--- history leaves.
+-- the plain machine's core starts at the begin of DRAM, with stack pointer 0
+abbrev pub plain_start : Start
+plain_start = record { pc = 0x80000000; sp = 0 }
+
+-- the finished run of a script on the plain machine with one core
+abbrev pub plain_run : List Line → Finished
+plain_run script = solo_run (plain 1) plain_start script
+
+-- The text is the report of the script's run on the plain machine with one core, whose log is a legal history of the sequential monitor, and whose tables are those that the history leaves.
+pub record IsRunReport (script : List Line) (text : List ℕ) : Type 0 where
+  pub report : text ≡ solo_report (plain 1) plain_start script
+  pub legal : Legal (plain_run script).config (plain_run script).logs
+  pub tables : HasLastTables (plain_run script)
+
+-- The text is that report of the script that the bytes are.
 pub record IsReport (told : Option (List ℕ)) (text : List ℕ) : Type 0 where
   pub script : List Line
-  pub finished : Finished
   pub read : AreScript told script
-  pub run : IsRunOf script finished
-  pub report : text ≡ report_text finished
+  pub run : IsRunReport script text
 
 -- The bytes are outside the grammar of scripts or pass its limit, and this is their first fault.
 pub record HasFirstFault (bytes : List ℕ) (fault : ScriptFault) : Type 0 where
@@ -117,7 +128,7 @@ pub record Ends (May : Status → List ℕ → Type 0) (before after : Option (L
 
 -- what is to be written for a script that was read
 abbrev pub IsRunText : List Line → Status → List ℕ → Type 0
-IsRunText script answers.Ok text = (finished : Finished) × IsRunOf script finished × (text ≡ report_text finished)
+IsRunText script answers.Ok text = IsRunReport script text
 IsRunText script answers.Usage text = ⊥
 IsRunText script (answers.ScriptRefused fault) text = ⊥
 IsRunText script answers.ReadFault text = ⊥

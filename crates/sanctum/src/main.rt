@@ -55,4 +55,8 @@ fn command_words<R: Env + Alloc<A = Global>>(rt: &R) -> io::Result<Vec<String>> 
 #[cfg(test)]
 mod edges;
 #[cfg(test)]
+mod enclave_rows;
+#[cfg(test)]
+mod refusal_rows;
+#[cfg(test)]
 mod tests;

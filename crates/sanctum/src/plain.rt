@@ -1,10 +1,12 @@
 //! The plain machine: 8 regions of one page, all words zero, and here one core.
 
-ghost use Rattle.std.specs.Prelude.{◌≡◌, IfOk};
+ghost use Rattle.std.specs.Prelude.{◌≡◌, [], ◌∷◌, IfOk};
+ghost use Rattle.mon_types.specs.Shape.{plain};
+ghost use Rattle.hist.specs.Legal.{Legal, HasLastTables};
 ghost use Rattle.hist.specs.Merging.{CanMerge};
 ghost use Rattle.report.specs.Report.{HasAllCores, ArePrintable};
-ghost use Rattle.solo.specs.Follows.{IsRunOf};
-ghost use Rattle.solo.specs.Carried.{IsCarriedOut, IsPlainImage, lines_of_core_0};
+ghost use Rattle.solo.specs.Given.{IsOneScript, lines_of_core_0};
+ghost use Rattle.sanctum.specs.Headline.{plain_start, plain_run};
 
 use hist::Finished;
 use mon_types::{Config, Image, Items, Script, Start};
@@ -13,8 +15,10 @@ use std::alloc::{AllocError, Global};
 
 /// Runs a script on the plain machine with one core.
 pub fn run_plain(alloc: Global, script: Script) -> Result<Finished, AllocError>
-    requires { IsCarriedOut script.cores }
-    ensures run { IfOk result (λ f. IsRunOf (lines_of_core_0 script.cores) f) }
+    requires { IsOneScript script.cores }
+    ensures run { IfOk result (λ f. f ≡ plain_run (lines_of_core_0 script.cores)) }
+    ensures legal { IfOk result (λ f. Legal f.config f.logs) }
+    ensures tables { IfOk result HasLastTables }
     ensures cores { IfOk result HasAllCores }
     ensures printable { IfOk result (λ f. ArePrintable f.logs) }
     ensures merge { IfOk result (λ f. CanMerge f.logs) }
@@ -25,7 +29,9 @@ pub fn run_plain(alloc: Global, script: Script) -> Result<Finished, AllocError>
 
 /// The image of the plain machine with one core.
 fn plain_image(alloc: Global) -> Result<Image, AllocError>
-    ensures { IfOk result IsPlainImage }
+    ensures machine { IfOk result (λ image. image.config ≡ plain 1) }
+    ensures starts { IfOk result (λ image. image.starts ≡ plain_start ∷ []) }
+    ensures segments { IfOk result (λ image. image.segments ≡ []) }
 {
     let mut starts = Items::new(alloc);
     starts.push(Start {

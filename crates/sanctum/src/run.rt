@@ -4,7 +4,7 @@ ghost use Rattle.std.specs.Prelude.{◌≡◌, ◌≢◌};
 ghost use Rattle.hist.specs.Merging.{CanMerge};
 ghost use Rattle.sm_ports.specs.Causes.{Rose};
 ghost use Rattle.report.specs.Report.{report_text, HasAllCores, ArePrintable};
-ghost use Rattle.solo.specs.Carried.{IsCarriedOut, lines_of_core_0};
+ghost use Rattle.solo.specs.Given.{IsOneScript, lines_of_core_0};
 ghost use Rattle.sanctum.specs.declared.words.Order.TheVariants as orders;
 ghost use Rattle.sanctum.specs.Headline.{Says, Prints, Ends, IsRunText};
 
@@ -39,7 +39,7 @@ pub fn run_script<D: Depot, K: Sink>(
 
 /// Runs a script on the plain machine, and prints the report.
 fn run_and_print<K: Sink>(alloc: Global, script: Script, out: &mut K) -> Status
-    requires { IsCarriedOut script.cores }
+    requires { IsOneScript script.cores }
     ensures ends { Ends (IsRunText (lines_of_core_0 script.cores)) (K.taken out.old) (K.taken out.new) result }
     ensures read_fault { result ≢ Status.ReadFault }
     ensures write_fault { result ≡ Status.WriteFault → Rose (K.faults out.old) (K.faults out.new) }

@@ -39,7 +39,7 @@ core 0 os flushed 3
 end
 ";
 
-const HEAD: &str = "sanctum report 1\nmachine cores 1 regions 8 pages 1 shift 0\n";
+pub const HEAD: &str = "sanctum report 1\nmachine cores 1 regions 8 pages 1 shift 0\n";
 
 const TABLES: &str = "region 0 owned os since 0
 region 1 owned os since 0
