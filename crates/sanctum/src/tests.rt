@@ -73,7 +73,7 @@ fn file_of(alloc: Global, bytes: &[u8]) -> Result<Vec<(String, Vec<u8>)>, AllocE
 }
 
 /// A text over and over.
-fn repeated(alloc: Global, text: &str, times: u32) -> Result<Vec<u8>, AllocError> {
+pub fn repeated(alloc: Global, text: &str, times: u32) -> Result<Vec<u8>, AllocError> {
     let mut bytes = Vec::new(alloc);
     for _ in 0..times {
         bytes.extend_from_slice(text.as_bytes())?;
