@@ -4,7 +4,7 @@ use Rattle.std.specs.List.{flat_map, AllByRecursion}
 use Rattle.mon_types.specs.Shape.{Shape}
 use Rattle.mon_types.specs.declared.reply.Reply.{Reply}
 use Rattle.mon_types.specs.declared.reply.Reply.TheVariants as replies
-use Rattle.mon_model.specs.Replies.{is_concurrent}
+use Rattle.mon_types.specs.Replies.{is_concurrent}
 use Rattle.hist.specs.declared.event.Entry.{Entry}
 use Rattle.hist.specs.Logged.{Logged}
 use Rattle.hist.specs.History.{entries_of, placed, in_ticket_order, history}

@@ -4,7 +4,7 @@ use Rattle.mon_types.specs.Shape.{Shape}
 use Rattle.mon_types.specs.declared.reply.Reply.{Reply}
 use Rattle.mon_types.specs.declared.reply.Reply.TheVariants as replies
 use Rattle.mon_model.specs.State.{State, start}
-use Rattle.mon_model.specs.Replies.{is_done, is_concurrent}
+use Rattle.mon_types.specs.Replies.{is_done, is_concurrent}
 use Rattle.mon_model.specs.Step.{reply_of, after}
 use Rattle.mon_model.specs.Measured.{Answered, IsMeasured}
 use Rattle.mon_model.specs.EveryMeasure.{start_measured, after_measured, refused_measured}

@@ -10,8 +10,8 @@ use Rattle.mon_types.specs.declared.region.Owner.TheVariants as owners
 use Rattle.mon_types.specs.declared.call.Call.{Call}
 use Rattle.mon_types.specs.declared.call.Call.TheVariants as calls
 use Rattle.mon_types.specs.declared.object.Tried.{Tried}
-use Rattle.mon_model.specs.Early.{os_word}
-use Rattle.mon_model.specs.Replies.{is_done}
+use Rattle.mon_types.specs.Owns.{os_word}
+use Rattle.mon_types.specs.Replies.{is_done}
 use Rattle.hist.specs.declared.event.Entry.{Entry}
 use Rattle.hist.specs.declared.period.Period.{Period}
 use Rattle.hist.specs.Merging.{Ascend}

@@ -7,7 +7,7 @@ use Rattle.mon_types.specs.declared.object.ObjectId.TheVariants as objects
 use Rattle.mon_types.specs.declared.object.Tried.{Tried}
 use Rattle.mon_types.specs.declared.reply.Reply.{Reply}
 use Rattle.mon_types.specs.declared.reply.Reply.TheVariants as replies
-use Rattle.mon_model.specs.Bits.{has_bit}
+use Rattle.mon_types.specs.Bits.{has_bit}
 use Rattle.mon_model.specs.State.{start}
 use Rattle.mon_model.specs.Tries.{tries, tried_set}
 use Rattle.hist.specs.declared.event.Entry.{Entry}

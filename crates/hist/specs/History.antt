@@ -8,7 +8,7 @@ use Rattle.hist.specs.declared.event.Event.{Event}
 use Rattle.hist.specs.declared.event.Event.TheVariants as events
 use Rattle.hist.specs.Logged.{Logged}
 use Rattle.mon_model.specs.State.{State, start}
-use Rattle.mon_model.specs.Replies.{is_concurrent}
+use Rattle.mon_types.specs.Replies.{is_concurrent}
 use Rattle.mon_model.specs.Step.{monitor_step}
 
 -- the monitor calls among a core's events

@@ -2,7 +2,7 @@
 use Rattle.std.specs.Prelude.{◌≡◌, ◌≤◌, ℕ, false, List, length, map, take}
 use Rattle.std.specs.List.{AllByRecursion}
 use Rattle.mon_types.specs.Shape.{Shape}
-use Rattle.mon_model.specs.Replies.{is_concurrent}
+use Rattle.mon_types.specs.Replies.{is_concurrent}
 use Rattle.mon_model.specs.Measured.{IsMeasured}
 use Rattle.hist.specs.Logged.{Logged}
 use Rattle.hist.specs.History.{history, state_after, last_state}

@@ -8,7 +8,7 @@ use Rattle.hist.specs.declared.finished.Finished.{Finished}
 use Rattle.hist.specs.Logged.{Logged}
 use Rattle.hist.specs.History.{entries_of, history, digest_of, after_entry, last_state}
 use Rattle.mon_model.specs.State.{State, start}
-use Rattle.mon_model.specs.Replies.{is_done, is_concurrent}
+use Rattle.mon_types.specs.Replies.{is_done, is_concurrent}
 use Rattle.mon_model.specs.Step.{monitor_step}
 use Rattle.mon_model.specs.Tries.{tries, tried_set}
 

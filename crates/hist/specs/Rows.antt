@@ -6,7 +6,7 @@ use Rattle.mon_types.specs.declared.reply.Reply.{Reply}
 use Rattle.mon_types.specs.declared.reply.Reply.TheVariants as replies
 use Rattle.mon_types.specs.declared.object.ObjectId.{ObjectId}
 use Rattle.mon_types.specs.declared.object.ObjectId.TheVariants as objects
-use Rattle.mon_model.specs.Replies.{done}
+use Rattle.mon_types.specs.Replies.{done}
 use Rattle.mon_model.specs.Tries.{tried_set}
 use Rattle.hist.specs.declared.event.Event.{Event}
 use Rattle.hist.specs.declared.event.Event.TheVariants as events

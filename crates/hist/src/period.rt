@@ -3,8 +3,8 @@
 ghost use Rattle.std.specs.Prelude.{◌≡◌, ◌<◌, ◌⊎◌, ◌^◌, ℕ, true, [], None, Some, if◌then◌else◌, nat_eq, IfSome};
 ghost use Rattle.std.specs.List.{AllByRecursion};
 ghost use Rattle.mon_types.specs.declared.region.Owner.TheVariants as owners;
-ghost use Rattle.mon_model.specs.Early.{os_word};
-ghost use Rattle.mon_model.specs.Replies.{is_done};
+ghost use Rattle.mon_types.specs.Owns.{os_word};
+ghost use Rattle.mon_types.specs.Replies.{is_done};
 ghost use Rattle.hist.specs.History.{history};
 ghost use Rattle.hist.specs.Merging.{CanMerge};
 ghost use Rattle.hist.specs.Period.{NameOwners, NamesOwnerIn, period_in, owner_by, sole_slot, is_end, is_free};

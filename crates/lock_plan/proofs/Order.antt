@@ -20,9 +20,10 @@ use Rattle.mon_types.specs.declared.reply.Reply.{Reply}
 use Rattle.mon_types.specs.declared.object.ObjectId.{ObjectId}
 use Rattle.mon_types.specs.declared.object.ObjectId.TheVariants as objects
 use Rattle.mon_model.specs.State.{State, mode_of}
-use Rattle.mon_model.specs.Bits.{has_bit, member, members}
-use Rattle.mon_model.specs.Early.{os_word, is_no_slot, is_unsupported, is_wrong_mode, is_bad_value, early}
-use Rattle.mon_model.specs.Step.{own_slot, own_thread}
+use Rattle.mon_types.specs.Bits.{has_bit, member, members}
+use Rattle.mon_types.specs.Owns.{os_word}
+use Rattle.mon_model.specs.Early.{is_no_slot, is_unsupported, is_wrong_mode, is_bad_value, early}
+use Rattle.mon_types.specs.Modes.{own_slot, own_thread}
 use Rattle.mon_model.specs.Tries.{own_enclave, free_tries, all_cells, held_tries, unless_refused, tries}
 use Rattle.lock_plan.specs.declared.held.Held.{Held}
 use Rattle.lock_plan.specs.Plan.{first_region, first_enclave, plan_of}
@@ -30,7 +31,7 @@ use Rattle.lock_plan.specs.Records.{nothing_held, and_records}
 use Rattle.lock_plan.specs.Laws.{TriesAscend}
 use Rattle.lock_plan.specs.EveryPlan.{settled}
 use Rattle.lock_plan.specs.Objects.{HasObject, IsCaller, IsBefore, AreInOrder}
-use Rattle.mon_types.specs.Limits.{few_cores, few_regions}
+use Rattle.mon_types.specs.LimitLaws.{few_cores, few_regions}
 
 -- objects of the machine, with rising numbers, from lo on and below hi
 abbrev pub Rises : Shape → ℕ → ℕ → List ObjectId → Type 0

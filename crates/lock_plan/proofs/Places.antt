@@ -6,7 +6,7 @@ use Rattle.std.proofs.lemmas.Option.{slice_get-map, slice_get-get_or, slice_get_
 use Rattle.std.proofs.lemmas.List.{append-nil}
 use Rattle.std.proofs.lemmas.List.FromFn.{length-range_with_len, get_or-range_with_len}
 use Rattle.mon_types.specs.declared.object.ObjectId.TheVariants as objects
-use Rattle.mon_model.specs.Bits.{has_bit, member, members}
+use Rattle.mon_types.specs.Bits.{has_bit, member, members}
 use Rattle.mon_model.specs.Tries.{all_cells}
 use Rattle.lock_plan.specs.EveryPlan.{slice_get_seam}
 

@@ -13,15 +13,16 @@ use Rattle.mon_types.specs.declared.call.Call.TheVariants as calls
 use Rattle.mon_types.specs.declared.object.ObjectId.{ObjectId}
 use Rattle.mon_types.specs.declared.object.ObjectId.TheVariants as objects
 use Rattle.mon_model.specs.State.{State, region_at, enclave_at, mode_of}
-use Rattle.mon_model.specs.Bits.{has_bit, member, members}
-use Rattle.mon_model.specs.Early.{os_word, early}
-use Rattle.mon_model.specs.Step.{own_slot}
+use Rattle.mon_types.specs.Bits.{has_bit, member, members}
+use Rattle.mon_types.specs.Owns.{os_word}
+use Rattle.mon_model.specs.Early.{early}
+use Rattle.mon_types.specs.Modes.{own_slot}
 use Rattle.mon_model.specs.Tries.{own_enclave, free_tries, all_cells, held_tries}
 use Rattle.lock_plan.specs.declared.held.Held.{Held}
 use Rattle.lock_plan.specs.Plan.{planned}
 use Rattle.lock_plan.specs.Records.{records_of, HasRoom, LeavesRoom}
 use Rattle.lock_plan.specs.EveryPlan.{tries_held, is_next}
-use Rattle.mon_types.specs.Limits.{few_cores, few_regions}
+use Rattle.mon_types.specs.LimitLaws.{few_cores, few_regions}
 
 -- no more records than there is room for
 pub record Fits (h : Held) : Type 0 where

@@ -6,7 +6,7 @@ use Rattle.mon_types.specs.Objects.{object_number}
 use Rattle.mon_types.specs.declared.thread.Mode.{Mode}
 use Rattle.mon_types.specs.declared.object.ObjectId.{ObjectId}
 use Rattle.mon_types.specs.declared.object.ObjectId.TheVariants as objects
-use Rattle.mon_model.specs.Step.{own_slot, own_thread}
+use Rattle.mon_types.specs.Modes.{own_slot, own_thread}
 
 -- the machine has the object: it has 8 enclave slots, 16 thread slots, and as many regions and cells as
 -- its shape says

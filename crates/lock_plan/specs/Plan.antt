@@ -12,8 +12,8 @@ use Rattle.mon_types.specs.declared.call.Call.{Call}
 use Rattle.mon_types.specs.declared.call.Call.TheVariants as calls
 use Rattle.mon_types.specs.declared.object.ObjectId.{ObjectId}
 use Rattle.mon_types.specs.declared.object.ObjectId.TheVariants as objects
-use Rattle.mon_model.specs.Bits.{members}
-use Rattle.mon_model.specs.Step.{own_slot, own_thread}
+use Rattle.mon_types.specs.Bits.{members}
+use Rattle.mon_types.specs.Modes.{own_slot, own_thread}
 use Rattle.mon_model.specs.Tries.{own_enclave, free_tries, assign_tries, send_tries}
 use Rattle.lock_plan.specs.declared.held.Held.{Held}
 

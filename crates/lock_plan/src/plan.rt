@@ -2,9 +2,9 @@
 
 ghost use Rattle.std.specs.Prelude.{◌≡◌, ◌<◌, ◌≤◌, ◌++◌, [], ◌∷◌, slice_get, map, None, true, IfSome};
 ghost use Rattle.mon_types.specs.Shape.{is_shape};
-ghost use Rattle.mon_model.specs.Bits.{has_bit, members};
+ghost use Rattle.mon_types.specs.Bits.{has_bit, members};
 ghost use Rattle.mon_model.specs.Early.{early};
-ghost use Rattle.mon_model.specs.Step.{own_slot, own_thread};
+ghost use Rattle.mon_types.specs.Modes.{own_slot, own_thread};
 ghost use Rattle.mon_model.specs.Tries.{all_cells, own_enclave, free_tries, assign_tries, send_tries};
 ghost use Rattle.lock_plan.specs.Plan.{first_region, first_enclave, delete_tries, plan_of, planned};
 ghost use Rattle.lock_plan.specs.Objects.{HasObject, IsCaller};
@@ -194,7 +194,7 @@ fn of_delete(regions: u8, e: u64, held: &Held, n: usize) -> Option<ObjectId>
 
 /// The object at place `n` among those that a call tries, made by this core in this mode, as far as the
 /// records held so far tell them.
-#[tactic(auto, using(mon_types::specs::Limits::few_regions, mon_types::specs::Limits::few_pages))]
+#[tactic(auto, using(mon_types::specs::LimitLaws::few_regions, mon_types::specs::LimitLaws::few_pages))]
 fn nth_of_plan(
     config: &Config,
     core: u8,

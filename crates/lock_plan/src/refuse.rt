@@ -1,7 +1,7 @@
 //! Refusals before any object is tried.
 
 ghost use Rattle.std.specs.Prelude.{◌≡◌, ◌+◌, ◌^◌, nat_lt, false, IfSome};
-ghost use Rattle.mon_model.specs.Replies.{is_done};
+ghost use Rattle.mon_types.specs.Replies.{is_done};
 ghost use Rattle.mon_model.specs.Early.{is_wrong_mode, is_bad_value, is_fixed_region, is_no_region, is_no_slot, is_no_thread, is_no_mailbox, is_no_page, is_bad_address, are_bad_perms, is_bad_range, is_bad_level, is_bad_satp, early};
 
 use mon_types::{Call, Config, Mode, OS_WORD, Reply};

@@ -7,7 +7,8 @@ use Rattle.mon_types.specs.declared.enclave.Enclave.{Enclave}
 use Rattle.mon_types.specs.declared.reply.Reply.{Reply}
 use Rattle.mon_types.specs.declared.reply.Reply.TheVariants as replies
 use Rattle.mon_model.specs.Loading.{takes_page, reserves_page}
-use Rattle.mon_model.specs.EnclaveCalls.{done_if, table_fits, leaf_fits, is_os_owned}
+use Rattle.mon_types.specs.Replies.{done_if}
+use Rattle.mon_model.specs.EnclaveCalls.{table_fits, leaf_fits, is_os_owned}
 
 -- the page frame number of DRAM's first page
 abbrev pub first_frame : ℕ

@@ -2,31 +2,32 @@
 
 ghost use Rattle.std.specs.Prelude.{◌≡◌};
 ghost use Rattle.mon_types.specs.Enclaves.{stage_code};
-ghost use Rattle.mon_model.specs.Replies.{done};
+ghost use Rattle.mon_types.specs.Replies.{done};
 ghost use Rattle.mon_model.specs.EnclaveCalls.{create_reply, init_reply, delete_reply, enclave_info_reply};
 
-use crate::replies::{done_reply, reply_if};
 use mon_types::{Enclave, Reply, Stage};
 
 /// create: InvalidState where the slot is not Empty.
 pub fn decide_create(enclave: &Enclave) -> Reply
     ensures { result ≡ create_reply enclave.now }
 {
-    reply_if(enclave.stage == Stage::Empty)
+    Reply::done_if(enclave.stage == Stage::Empty)
 }
 
 /// init: InvalidState where the enclave is not Loading, or has no root or no thread.
 pub fn decide_init(enclave: &Enclave) -> Reply
     ensures { result ≡ init_reply enclave.now }
 {
-    reply_if(enclave.stage == Stage::Loading && enclave.root.is_some() && enclave.threads != 0)
+    Reply::done_if(
+        enclave.stage == Stage::Loading && enclave.root.is_some() && enclave.threads != 0,
+    )
 }
 
 /// delete: InvalidState where the slot is Empty, or threads of the enclave are left.
 pub fn decide_delete(enclave: &Enclave) -> Reply
     ensures { result ≡ delete_reply enclave.now }
 {
-    reply_if(enclave.stage != Stage::Empty && enclave.threads == 0)
+    Reply::done_if(enclave.stage != Stage::Empty && enclave.threads == 0)
 }
 
 fn stage_word(stage: Stage) -> u64
@@ -46,24 +47,21 @@ pub fn decide_enclave_info(enclave: &Enclave) -> Reply
 {
     let [m0, m1, m2, m3] = enclave.measure;
     let stage = stage_word(enclave.stage);
-    Reply::Ok {
-        count: 8,
-        words: [
-            stage,
-            enclave.base,
-            enclave.size,
-            enclave.regions,
-            m0,
-            m1,
-            m2,
-            m3,
-        ],
-    }
+    Reply::told_eight([
+        stage,
+        enclave.base,
+        enclave.size,
+        enclave.regions,
+        m0,
+        m1,
+        m2,
+        m3,
+    ])
 }
 
 /// set_satp, which has no refusal here.
 pub fn decide_satp() -> Reply
     ensures { result ≡ done }
 {
-    done_reply()
+    Reply::done()
 }

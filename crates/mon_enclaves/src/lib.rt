@@ -10,7 +10,6 @@ mod after;
 mod decide;
 mod entries;
 mod loading;
-mod replies;
 #[cfg(test)]
 mod tests;
 

@@ -3,18 +3,17 @@
 ghost use Rattle.std.specs.Prelude.{◌≡◌, ◌<◌, ℕ, true, List};
 ghost use Rattle.mon_types.specs.Shape.{is_shape, page_total, region_of_page};
 ghost use Rattle.mon_types.specs.declared.enclave.Loaded.{Loaded};
-ghost use Rattle.mon_model.specs.Bits.{has_bit};
+ghost use Rattle.mon_types.specs.Bits.{has_bit};
 ghost use Rattle.mon_model.specs.Loading.{is_next_page, in_range};
 ghost use Rattle.mon_model.specs.EnclaveCalls.{table_fits, leaf_fits, is_os_owned, load_table_reply, load_page_reply, reserve_reply};
 ghost use Rattle.mon_enclaves.specs.Entries.{table_reply, page_reply, reserved_reply};
 ghost use Rattle.mon_enclaves.specs.FromItems.{StandInPages, table_words, leaf_words};
 
 use crate::entries::{LEAF_PATH, lets_on, path_of_table};
-use crate::replies::reply_if;
 use mon_types::{Config, Enclave, Owner, Region, Reply, Stage};
 
 /// Whether the page lies in a region of the enclave.
-#[tactic(auto, using(mon_types::specs::Limits::few_regions))]
+#[tactic(auto, using(mon_types::specs::LimitLaws::few_regions))]
 fn owns_page(config: &Config, enclave: &Enclave, page: u16) -> bool
     requires { page < page_total config.now }
     ensures owned { result ≡ has_bit enclave.now.regions (region_of_page config.now page) }
@@ -79,7 +78,7 @@ pub fn decide_table(
     ensures by_items { (items : List Loaded) → StandInPages config.now items → entries.now ≡ table_words items va level → result ≡ load_table_reply config.now enclave.now items va level page }
 {
     let owned = owns_page(config, enclave, page);
-    reply_if(
+    Reply::done_if(
         may_take(enclave, page)
             && owned
             && has_room_for_table(enclave, va, level)
@@ -127,7 +126,7 @@ pub fn decide_page(
     if !is_owned_by_os(source) {
         return Reply::AccessDenied;
     }
-    reply_if(lets_on(config, LEAF_PATH, entries))
+    Reply::done_if(lets_on(config, LEAF_PATH, entries))
 }
 
 /// reserve of a page below N. `entries` are as for load_page.
@@ -147,7 +146,7 @@ pub fn decide_reserve(
     ensures by_items { (items : List Loaded) (perms : ℕ) → StandInPages config.now items → entries.now ≡ leaf_words items va perms → result ≡ reserve_reply config.now enclave.now items va page }
 {
     let owned = owns_page(config, enclave, page);
-    reply_if(
+    Reply::done_if(
         may_take(enclave, page)
             && !owned
             && has_room_for_leaf(enclave, va)

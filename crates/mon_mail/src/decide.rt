@@ -1,26 +1,16 @@
 //! What the calls on mailboxes answer once their objects are held.
 
 ghost use Rattle.std.specs.Prelude.{◌≡◌, ◌<◌, ◌++◌};
-ghost use Rattle.mon_model.specs.Replies.{done, told_eight};
+ghost use Rattle.mon_types.specs.Replies.{done, told_eight};
 ghost use Rattle.mon_model.specs.MailCalls.{expects, send_reply, read_reply};
 
 use mon_types::{Enclave, Mailbox, Reply, Stage};
-
-/// Ok with no words.
-fn done_reply() -> Reply
-    ensures { result ≡ done }
-{
-    Reply::Ok {
-        count: 0,
-        words: [0; 8],
-    }
-}
 
 /// accept, which has no refusal here.
 pub fn decide_accept() -> Reply
     ensures { result ≡ done }
 {
-    done_reply()
+    Reply::done()
 }
 
 /// Whether the mailbox waits for a message of this sender.
@@ -40,7 +30,7 @@ pub fn decide_send(own: u8, target: &Enclave, m: u8) -> Reply
     ensures { result ≡ send_reply own target.now m }
 {
     if target.stage == Stage::Initialized && is_expecting(&target.mail[usize::from(m)], own) {
-        done_reply()
+        Reply::done()
     } else {
         Reply::InvalidState
     }
@@ -52,10 +42,7 @@ fn message_reply(words: &[u64; 4], measure: &[u64; 4]) -> Reply
 {
     let [w0, w1, w2, w3] = *words;
     let [m0, m1, m2, m3] = *measure;
-    Reply::Ok {
-        count: 8,
-        words: [w0, w1, w2, w3, m0, m1, m2, m3],
-    }
+    Reply::told_eight([w0, w1, w2, w3, m0, m1, m2, m3])
 }
 
 /// read of mailbox `m` of the enclave with the record `own`: InvalidState where the mailbox is not

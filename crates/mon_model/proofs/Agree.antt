@@ -18,14 +18,16 @@ use Rattle.mon_types.specs.declared.reply.Reply.TheVariants as replies
 use Rattle.mon_types.specs.declared.object.ObjectId.{ObjectId}
 use Rattle.mon_types.specs.declared.object.ObjectId.TheVariants as objects
 use Rattle.mon_model.specs.State.{State, IsWhole, region_at, enclave_at, thread_at, loaded_at, mode_of, with_region, with_enclave, with_thread, with_slot}
-use Rattle.mon_model.specs.Bits.{members}
-use Rattle.mon_model.specs.Replies.{is_done}
-use Rattle.mon_model.specs.Early.{os_word, is_unsupported, is_wrong_mode, is_bad_value}
+use Rattle.mon_types.specs.Bits.{members}
+use Rattle.mon_types.specs.Replies.{is_done}
+use Rattle.mon_types.specs.Owns.{os_word}
+use Rattle.mon_model.specs.Early.{is_unsupported, is_wrong_mode, is_bad_value}
 use Rattle.mon_model.specs.RegionCalls.{loses_region, gains_region, block_reply, blocked, free_reply, assign_reply, assigned, with_assigned, region_info_reply, accept_region_reply}
 use Rattle.mon_model.specs.EnclaveCalls.{create_reply, load_table_reply, load_page_reply, reserve_reply, with_table, with_page, with_reserved, init_reply, initialized, delete_reply, deleted, enclave_info_reply}
 use Rattle.mon_model.specs.ThreadCalls.{load_thread_reply, with_thread_loaded, delete_thread_reply, without_thread, enter_reply, running, left, left_saving, restore_reply, restored}
 use Rattle.mon_model.specs.MailCalls.{with_mailbox, send_reply, sent, read_reply}
-use Rattle.mon_model.specs.Step.{or_else, held_reply, effect, reply_of, own_slot, own_thread, without_own_region, with_deleted, regions_of}
+use Rattle.mon_types.specs.Modes.{own_slot, own_thread}
+use Rattle.mon_model.specs.Step.{or_else, held_reply, effect, reply_of, without_own_region, with_deleted, regions_of}
 use Rattle.mon_model.specs.Tries.{tries, held_tries, own_enclave, free_tries, send_tries, unless_refused}
 use Rattle.mon_model.specs.Laws.{AgreeOn, SameCall}
 use Rattle.mon_model.proofs.Members.{IsIn, here, there, in_map}

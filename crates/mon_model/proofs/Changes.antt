@@ -18,9 +18,11 @@ use Rattle.mon_types.specs.declared.reply.Reply.TheVariants as replies
 use Rattle.mon_types.specs.declared.object.ObjectId.{ObjectId}
 use Rattle.mon_types.specs.declared.object.ObjectId.TheVariants as objects
 use Rattle.mon_model.specs.State.{State, mode_of, with_region, with_enclave, with_thread, with_flushed, with_mode, with_slot}
-use Rattle.mon_model.specs.Replies.{is_done}
-use Rattle.mon_model.specs.Early.{os_word, is_unsupported, is_wrong_mode, is_bad_value}
-use Rattle.mon_model.specs.Step.{or_else, held_reply, effect, after, own_thread, without_own_region, with_deleted, regions_of}
+use Rattle.mon_types.specs.Replies.{is_done}
+use Rattle.mon_types.specs.Owns.{os_word}
+use Rattle.mon_model.specs.Early.{is_unsupported, is_wrong_mode, is_bad_value}
+use Rattle.mon_types.specs.Modes.{own_thread}
+use Rattle.mon_model.specs.Step.{or_else, held_reply, effect, after, without_own_region, with_deleted, regions_of}
 use Rattle.mon_model.specs.Tries.{tries, held_tries, own_enclave, unless_refused}
 use Rattle.mon_model.specs.Laws.{ChangesOnly}
 use Rattle.mon_model.proofs.Members.{IsIn, here, there, in_map}

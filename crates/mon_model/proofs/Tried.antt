@@ -10,7 +10,7 @@ use Rattle.mon_types.specs.declared.thread.Mode.TheVariants as modes
 use Rattle.mon_types.specs.declared.object.ObjectId.{ObjectId}
 use Rattle.mon_types.specs.declared.object.ObjectId.TheVariants as objects
 use Rattle.mon_model.specs.Early.{shuts_out, AnEnclave}
-use Rattle.mon_model.specs.Step.{own_slot}
+use Rattle.mon_types.specs.Modes.{own_slot}
 use Rattle.mon_model.specs.Tries.{own_enclave, free_tries, send_tries, all_cells}
 use Rattle.mon_model.proofs.Members.{IsIn, here, there, in_map}
 

@@ -8,6 +8,7 @@ use Rattle.mon_types.specs.declared.call.Call.{Call}
 use Rattle.mon_types.specs.declared.call.Call.TheVariants as calls
 use Rattle.mon_types.specs.declared.reply.Reply.{Reply}
 use Rattle.mon_types.specs.declared.reply.Reply.TheVariants as replies
+use Rattle.mon_types.specs.Owns.{os_word}
 
 -- who may make a call
 pub data Caller : Type 0 where
@@ -79,10 +80,6 @@ is_unsupported (calls.Reserve e va page perms) = false
 is_unsupported (calls.Unknown number args) = true
 
 -- ---- arguments out of range
-
--- the word that names the OS
-abbrev pub os_word : ℕ
-os_word = 18446744073709551615
 
 abbrev pub is_no_slot : ℕ → Bool
 is_no_slot e = nat_le 8 e

@@ -17,14 +17,16 @@ use Rattle.mon_types.specs.declared.call.Call.TheVariants as calls
 use Rattle.mon_types.specs.declared.reply.Reply.{Reply}
 use Rattle.mon_types.specs.declared.reply.Reply.TheVariants as replies
 use Rattle.mon_model.specs.State.{State, mode_of, region_at, enclave_at, thread_at, loaded_at}
-use Rattle.mon_model.specs.Replies.{done, told, told_four, told_eight, is_concurrent}
-use Rattle.mon_model.specs.Early.{os_word, is_unsupported, is_wrong_mode, is_bad_value}
+use Rattle.mon_types.specs.Replies.{done, told, told_four, told_eight, is_concurrent, done_if}
+use Rattle.mon_types.specs.Owns.{os_word}
+use Rattle.mon_model.specs.Early.{is_unsupported, is_wrong_mode, is_bad_value}
 use Rattle.mon_model.specs.RegionCalls.{acts_for, is_empty, is_free, block_reply, free_reply, assign_reply, owner_word, region_info_reply, accept_region_reply}
 use Rattle.mon_model.specs.Loading.{takes_page, has_place_for_leaf}
-use Rattle.mon_model.specs.EnclaveCalls.{done_if, leaf_fits, is_os_owned, load_page_reply}
+use Rattle.mon_model.specs.EnclaveCalls.{leaf_fits, is_os_owned, load_page_reply}
 use Rattle.mon_model.specs.ThreadCalls.{restore_reply}
 use Rattle.mon_model.specs.MailCalls.{mailbox_at, mail_reply}
-use Rattle.mon_model.specs.Step.{own_slot, own_thread, assignee, held_reply, or_else, reply_of}
+use Rattle.mon_types.specs.Modes.{own_slot, own_thread}
+use Rattle.mon_model.specs.Step.{assignee, held_reply, or_else, reply_of}
 
 -- a fact that holds of each kind of reply that the sequential monitor gives
 pub record HoldsOfReplies (P : Reply → Type 0) : Type 0 where

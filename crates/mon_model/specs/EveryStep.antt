@@ -5,7 +5,7 @@ use Rattle.mon_types.specs.declared.thread.Mode.TheVariants as modes
 use Rattle.mon_types.specs.declared.call.Call.{Call}
 use Rattle.mon_types.specs.declared.call.Call.TheVariants as calls
 use Rattle.mon_model.specs.State.{State, mode_of, region_at, with_region}
-use Rattle.mon_model.specs.Replies.{is_done}
+use Rattle.mon_types.specs.Replies.{is_done}
 use Rattle.mon_model.specs.EnclaveCalls.{deleted}
 use Rattle.mon_model.specs.Step.{without_own_region, with_deleted, regions_of, effect, reply_of, after}
 

@@ -9,7 +9,7 @@ use Rattle.mon_types.specs.declared.object.ObjectId.{ObjectId}
 use Rattle.mon_types.specs.declared.object.ObjectId.TheVariants as objects
 use Rattle.mon_types.specs.declared.object.Tried.{Tried}
 use Rattle.mon_model.specs.State.{State, start}
-use Rattle.mon_model.specs.Early.{os_word}
+use Rattle.mon_types.specs.Owns.{os_word}
 use Rattle.mon_model.specs.Measure.{Item, Table, Page, Thread, Init, measure_created, measure_with}
 use Rattle.mon_model.specs.Step.{monitor_step}
 use Rattle.mon_model.specs.Measured.{Answered, items_of}

@@ -7,7 +7,8 @@ use Rattle.mon_types.specs.declared.thread.Mode.{Mode}
 use Rattle.mon_types.specs.declared.call.Call.{Call}
 use Rattle.mon_types.specs.declared.call.Call.TheVariants as calls
 use Rattle.mon_types.specs.declared.reply.Reply.TheVariants as replies
-use Rattle.mon_model.specs.Early.{os_word, is_unsupported, is_wrong_mode, is_bad_value, is_no_slot, is_fixed_region, are_bad_perms, is_bad_level, early}
+use Rattle.mon_types.specs.Owns.{os_word}
+use Rattle.mon_model.specs.Early.{is_unsupported, is_wrong_mode, is_bad_value, is_no_slot, is_fixed_region, are_bad_perms, is_bad_level, early}
 
 -- each region, page, enclave slot, thread slot and mailbox that the call names is one of the machine, an
 -- assign may name the OS instead of a slot, and levels and permissions are small

@@ -6,7 +6,7 @@ use Rattle.mon_types.specs.declared.object.ObjectId.{ObjectId}
 use Rattle.mon_types.specs.declared.object.ObjectId.TheVariants as objects
 use Rattle.mon_model.specs.State.{State, IsWhole, start, region_at, enclave_at, thread_at, flushed_at, mode_of, loaded_at}
 use Rattle.mon_model.specs.Tries.{tries}
-use Rattle.mon_model.specs.Replies.{is_done, is_concurrent}
+use Rattle.mon_types.specs.Replies.{is_done, is_concurrent}
 use Rattle.mon_model.specs.Step.{monitor_step}
 
 -- a refusal leaves the state as it was

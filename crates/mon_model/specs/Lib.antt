@@ -1,6 +1,4 @@
 pub mod State
-pub mod Bits
-pub mod Replies
 pub mod Early
 pub mod RegionCalls
 pub mod Measure

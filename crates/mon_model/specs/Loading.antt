@@ -7,7 +7,7 @@ use Rattle.mon_types.specs.declared.enclave.LoadedKind.{LoadedKind}
 use Rattle.mon_types.specs.declared.enclave.LoadedKind.TheVariants as kinds
 use Rattle.mon_types.specs.declared.enclave.Loaded.{Loaded}
 use Rattle.mon_types.specs.declared.enclave.Enclave.{Enclave}
-use Rattle.mon_model.specs.Bits.{has_bit}
+use Rattle.mon_types.specs.Bits.{has_bit}
 use Rattle.mon_model.specs.RegionCalls.{is_loading}
 
 -- the part of an address that an item of this kind serves: a table of level 2 serves all addresses,

@@ -6,9 +6,8 @@ use Rattle.mon_types.specs.declared.enclave.Mailbox.TheVariants as boxes
 use Rattle.mon_types.specs.declared.enclave.Enclave.{Enclave}
 use Rattle.mon_types.specs.declared.reply.Reply.{Reply}
 use Rattle.mon_types.specs.declared.reply.Reply.TheVariants as replies
-use Rattle.mon_model.specs.Replies.{told_eight}
+use Rattle.mon_types.specs.Replies.{told_eight, done_if}
 use Rattle.mon_model.specs.RegionCalls.{is_initialized}
-use Rattle.mon_model.specs.EnclaveCalls.{done_if}
 
 abbrev pub mailbox_at : Enclave → ℕ → Mailbox
 mailbox_at enclave m = slice_index_or enclave.mail m boxes.Closed

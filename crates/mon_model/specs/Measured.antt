@@ -5,7 +5,7 @@ use Rattle.mon_types.specs.declared.call.Call.{Call}
 use Rattle.mon_types.specs.declared.call.Call.TheVariants as calls
 use Rattle.mon_types.specs.declared.reply.Reply.{Reply}
 use Rattle.mon_model.specs.State.{State, enclave_at}
-use Rattle.mon_model.specs.Replies.{is_done}
+use Rattle.mon_types.specs.Replies.{is_done}
 use Rattle.mon_model.specs.RegionCalls.{is_empty}
 use Rattle.mon_model.specs.Step.{reply_of}
 use Rattle.mon_model.specs.Measure.{Item, Create, Table, Page, Thread, Init, reserved_level, chain_start, extend, to_words}

@@ -12,9 +12,9 @@ use Rattle.mon_types.specs.declared.thread.Mode.{Mode}
 use Rattle.mon_types.specs.declared.thread.Mode.TheVariants as modes
 use Rattle.mon_types.specs.declared.reply.Reply.{Reply}
 use Rattle.mon_types.specs.declared.reply.Reply.TheVariants as replies
-use Rattle.mon_model.specs.Bits.{with_bit, without_bit}
-use Rattle.mon_model.specs.Early.{os_word}
-use Rattle.mon_model.specs.Replies.{done, told_four}
+use Rattle.mon_types.specs.Bits.{with_bit, without_bit}
+use Rattle.mon_types.specs.Owns.{os_word}
+use Rattle.mon_types.specs.Replies.{done, told_four}
 
 -- the enclave loses, or gains, a region
 abbrev pub loses_region : Enclave → ℕ → Enclave

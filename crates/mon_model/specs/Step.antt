@@ -12,28 +12,21 @@ use Rattle.mon_types.specs.declared.enclave.LoadedKind.TheVariants as kinds
 use Rattle.mon_types.specs.declared.enclave.Mailbox.TheVariants as boxes
 use Rattle.mon_types.specs.declared.thread.Mode.{Mode}
 use Rattle.mon_types.specs.declared.thread.Mode.TheVariants as modes
+use Rattle.mon_types.specs.Modes.{own_slot, own_thread}
 use Rattle.mon_types.specs.declared.call.Call.{Call}
 use Rattle.mon_types.specs.declared.call.Call.TheVariants as calls
 use Rattle.mon_types.specs.declared.reply.Reply.{Reply}
 use Rattle.mon_types.specs.declared.reply.Reply.TheVariants as replies
 use Rattle.mon_model.specs.State.{State, region_at, enclave_at, thread_at, mode_of, loaded_at, with_region, with_enclave, with_thread, with_flushed, with_mode, with_slot}
-use Rattle.mon_model.specs.Bits.{members}
-use Rattle.mon_model.specs.Replies.{done, is_done}
-use Rattle.mon_model.specs.Early.{os_word, early}
+use Rattle.mon_types.specs.Bits.{members}
+use Rattle.mon_types.specs.Replies.{done, is_done}
+use Rattle.mon_types.specs.Owns.{os_word}
+use Rattle.mon_model.specs.Early.{early}
 use Rattle.mon_model.specs.RegionCalls.{loses_region, gains_region, block_reply, blocked, free_reply, assign_reply, assigned, with_assigned, region_info_reply, accept_region_reply}
 use Rattle.mon_model.specs.Loading.{table_kind}
 use Rattle.mon_model.specs.EnclaveCalls.{create_reply, created, load_table_reply, load_page_reply, reserve_reply, with_table, with_page, with_reserved, init_reply, initialized, delete_reply, deleted, enclave_info_reply}
 use Rattle.mon_model.specs.ThreadCalls.{load_thread_reply, ready, with_thread_loaded, delete_thread_reply, without_thread, enter_reply, running, left, left_saving, restore_reply, restored}
 use Rattle.mon_model.specs.MailCalls.{with_mailbox, send_reply, sent, read_reply}
-
--- the slot of the enclave that a core is inside, and of its thread; no call asks this of the OS
-abbrev pub own_slot : Mode → ℕ
-own_slot modes.Os = 0
-own_slot (modes.Inside e t) = e
-
-abbrev pub own_thread : Mode → ℕ
-own_thread modes.Os = 0
-own_thread (modes.Inside e t) = t
 
 -- the enclave to which a region is assigned, None for the OS
 abbrev pub assignee : State → ℕ → Option Enclave

@@ -7,10 +7,10 @@ use Rattle.mon_types.specs.declared.thread.ThreadState.TheVariants as states
 use Rattle.mon_types.specs.declared.thread.Thread.{Thread}
 use Rattle.mon_types.specs.declared.reply.Reply.{Reply}
 use Rattle.mon_types.specs.declared.reply.Reply.TheVariants as replies
-use Rattle.mon_model.specs.Replies.{told}
+use Rattle.mon_types.specs.Replies.{told, done_if}
 use Rattle.mon_model.specs.RegionCalls.{is_loading, is_initialized}
 use Rattle.mon_model.specs.Measure.{Thread as ThreadItem}
-use Rattle.mon_model.specs.EnclaveCalls.{done_if, measured}
+use Rattle.mon_model.specs.EnclaveCalls.{measured}
 
 abbrev pub is_no_state : ThreadState → Bool
 is_no_state states.Empty = true

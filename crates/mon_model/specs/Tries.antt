@@ -14,8 +14,10 @@ use Rattle.mon_types.specs.declared.object.ObjectId.{ObjectId}
 use Rattle.mon_types.specs.declared.object.ObjectId.TheVariants as objects
 use Rattle.mon_types.specs.declared.object.Tried.{Tried}
 use Rattle.mon_model.specs.State.{State, region_at, mode_of}
-use Rattle.mon_model.specs.Early.{os_word, early}
-use Rattle.mon_model.specs.Step.{own_slot, own_thread, regions_of}
+use Rattle.mon_types.specs.Owns.{os_word}
+use Rattle.mon_model.specs.Early.{early}
+use Rattle.mon_types.specs.Modes.{own_slot, own_thread}
+use Rattle.mon_model.specs.Step.{regions_of}
 
 abbrev pub all_cells : ℕ → List ObjectId
 all_cells cores = map (λ core. objects.Cell core) (range_with_len 0 cores)

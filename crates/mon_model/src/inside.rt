@@ -7,7 +7,7 @@ ghost use Rattle.mon_types.specs.declared.region.Region.TheVariants as regions;
 ghost use Rattle.mon_types.specs.declared.thread.ThreadState.TheVariants as states;
 ghost use Rattle.mon_types.specs.declared.reply.Reply.TheVariants as replies;
 ghost use Rattle.mon_model.specs.State.{region_at, thread_at};
-ghost use Rattle.mon_model.specs.Replies.{done, told, told_eight};
+ghost use Rattle.mon_types.specs.Replies.{done, told, told_eight};
 ghost use Rattle.mon_model.specs.Tries.{tried_set};
 ghost use Rattle.mon_model.specs.Examples.{run, sixteen, e0, t0, c0, r2, r3, r4, r5, small_measure, saved_words, delete_from_inside_calls, self_mail_calls, ticked, tick_and_restore_calls, own_region_blocked, own_region_freed};
 

@@ -1,7 +1,7 @@
 //! The sequential monitor as definitions, and laws about them. No code here runs: what the monitor is
 //! stands in `specs/`, and each function below is a law that its contract states. The modules hold
 //! runs of calls from the start of a machine, with what each call answers and tries.
-#![tactic(auto, unfolding(crate::specs::Bits::members))]
+#![tactic(auto, unfolding(mon_types::specs::Bits::members))]
 
 mod inside;
 mod loading;

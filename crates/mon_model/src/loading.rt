@@ -6,7 +6,7 @@ ghost use Rattle.mon_types.specs.declared.region.Owner.TheVariants as owners;
 ghost use Rattle.mon_types.specs.declared.region.Region.TheVariants as regions;
 ghost use Rattle.mon_types.specs.declared.reply.Reply.TheVariants as replies;
 ghost use Rattle.mon_model.specs.State.{region_at, enclave_at};
-ghost use Rattle.mon_model.specs.Replies.{done};
+ghost use Rattle.mon_types.specs.Replies.{done};
 ghost use Rattle.mon_model.specs.Measure.{Create};
 ghost use Rattle.mon_model.specs.Tries.{tried_set};
 ghost use Rattle.mon_model.specs.Examples.{run, sixteen, e0, r1, r2, r3, r4, r5, given, loaded, finished, twins, small_measure, small_loads, run_items, delete_blocks_calls, page_below_next_calls, init_without_thread_calls, create_overflow_calls};

@@ -5,7 +5,7 @@ ghost use Rattle.mon_types.specs.declared.region.Owner.TheVariants as owners;
 ghost use Rattle.mon_types.specs.declared.region.Region.TheVariants as regions;
 ghost use Rattle.mon_types.specs.declared.reply.Reply.TheVariants as replies;
 ghost use Rattle.mon_model.specs.State.{region_at};
-ghost use Rattle.mon_model.specs.Replies.{done, told_four, told_eight};
+ghost use Rattle.mon_types.specs.Replies.{done, told_four, told_eight};
 ghost use Rattle.mon_model.specs.Measure.{Create, Table, Page, Thread, Init};
 ghost use Rattle.mon_model.specs.Tries.{tried_set};
 ghost use Rattle.mon_model.specs.Examples.{run, sixteen, e0, t0, c0, r12, small_measure, run_items, offered, offer_and_accept_calls, offer_withdrawn_calls, reserved_page_calls};

@@ -7,8 +7,8 @@ ghost use Rattle.mon_types.specs.declared.region.Region.TheVariants as regions;
 ghost use Rattle.mon_types.specs.declared.call.Call.TheVariants as calls;
 ghost use Rattle.mon_types.specs.declared.reply.Reply.TheVariants as replies;
 ghost use Rattle.mon_model.specs.State.{region_at};
-ghost use Rattle.mon_model.specs.Early.{os_word};
-ghost use Rattle.mon_model.specs.Replies.{done, told_four};
+ghost use Rattle.mon_types.specs.Owns.{os_word};
+ghost use Rattle.mon_types.specs.Replies.{done, told_four};
 ghost use Rattle.mon_model.specs.Tries.{tried_set};
 ghost use Rattle.mon_model.specs.Examples.{run, largest, c0, c1, r3, first_path_calls, bad_region_calls, half_flushed_calls, refused_early};
 

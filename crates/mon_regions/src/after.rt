@@ -6,8 +6,7 @@ ghost use Rattle.mon_model.specs.RegionCalls.{blocked, assigned, loses_region, g
 ghost use Rattle.mon_regions.specs.Named.{named_region, named_owner, IsBlock, IsAssign, IsAcceptRegion, given_to};
 ghost use Rattle.mon_regions.specs.Left.{left_behind};
 
-use crate::bits::{with_region, without_region};
-use mon_types::{Call, Enclave, Owner, Region, Stage};
+use mon_types::{Call, Enclave, Owner, Region, Stage, with_bit, without_bit};
 
 /// What block leaves: the region is Blocked, and leaves the set of the enclave that made the call.
 /// `own` is that enclave, None for the OS.
@@ -21,7 +20,7 @@ pub fn after_block(ticket: u32, call: &Call, own: Option<&mut Enclave>, region: 
     };
     *region = withdrawn(*region, ticket);
     if let Some(enclave) = own {
-        enclave.regions = without_region(enclave.regions, r);
+        enclave.regions = without_bit(enclave.regions, r as u8);
     }
 }
 
@@ -81,7 +80,7 @@ fn assign_to(enclave: &mut Enclave, slot: u8, r: u64, ticket: u32) -> Region
             at: ticket,
         }
     } else {
-        enclave.regions = with_region(enclave.regions, r);
+        enclave.regions = with_bit(enclave.regions, r as u8);
         Region::Owned {
             owner: Owner::Enclave(slot),
             since: ticket,
@@ -111,7 +110,7 @@ pub fn after_accept_region(
     let Call::AcceptRegion { r } = *call else {
         unreachable!()
     };
-    enclave.regions = with_region(enclave.regions, r);
+    enclave.regions = with_bit(enclave.regions, r as u8);
     *region = Region::Owned {
         owner: Owner::Enclave(own),
         since: ticket,

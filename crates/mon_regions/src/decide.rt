@@ -3,29 +3,16 @@
 ghost use Rattle.std.specs.Prelude.{◌≡◌, nat_le};
 ghost use Rattle.std.specs.List.{list_all};
 ghost use Rattle.std.specs.Option.{option_copied};
-ghost use Rattle.mon_model.specs.Replies.{done, told_four};
+ghost use Rattle.mon_types.specs.Replies.{done, told_four};
 ghost use Rattle.mon_model.specs.RegionCalls.{acts_for, owner_word, block_reply, free_reply, assign_reply, region_info_reply, accept_region_reply};
 
 use mon_types::{Enclave, Mode, OS_WORD, Owner, Region, Reply, Stage};
 
-/// Ok with no words.
-fn done_reply() -> Reply
-    ensures { result ≡ done }
-{
-    Reply::Ok {
-        count: 0,
-        words: [0; 8],
-    }
-}
-
-/// Ok with four words.
+/// Ok with four words: the state, the owner's word and two tickets.
 fn told_reply(state: u64, owner: u64, since: u32, at: u32) -> Reply
     ensures { result ≡ told_four state owner since at }
 {
-    Reply::Ok {
-        count: 4,
-        words: [state, owner, u64::from(since), u64::from(at), 0, 0, 0, 0],
-    }
+    Reply::told_four(state, owner, u64::from(since), u64::from(at))
 }
 
 /// Whether a core in this mode acts for the owner.
@@ -47,12 +34,12 @@ pub fn decide_block(mode: Mode, region: &Region) -> Reply
     match (*region, mode) {
         (Region::Owned { owner, .. }, _) => {
             if is_owner(mode, owner) {
-                done_reply()
+                Reply::done()
             } else {
                 Reply::AccessDenied
             }
         }
-        (Region::Offered { .. }, Mode::Os) => done_reply(),
+        (Region::Offered { .. }, Mode::Os) => Reply::done(),
         (Region::Offered { .. }, Mode::Inside { .. }) => Reply::AccessDenied,
         (Region::Free | Region::Blocked { .. }, _) => Reply::InvalidState,
     }
@@ -72,7 +59,7 @@ pub fn decide_free(region: &Region, cells: &[u32]) -> Reply
     match *region {
         Region::Blocked { at, .. } => {
             if have_all_flushed(cells, at) {
-                done_reply()
+                Reply::done()
             } else {
                 Reply::NotFlushed
             }
@@ -92,7 +79,7 @@ pub fn decide_assign(to: Option<&Enclave>, region: &Region) -> Reply
         return Reply::InvalidState;
     }
     match *region {
-        Region::Free => done_reply(),
+        Region::Free => Reply::done(),
         _ => Reply::InvalidState,
     }
 }
@@ -101,7 +88,7 @@ pub fn decide_assign(to: Option<&Enclave>, region: &Region) -> Reply
 pub fn decide_flush() -> Reply
     ensures { result ≡ done }
 {
-    done_reply()
+    Reply::done()
 }
 
 fn word_of(owner: Owner) -> u64
@@ -134,7 +121,7 @@ pub fn decide_accept_region(own: u8, region: &Region) -> Reply
     match *region {
         Region::Offered { to, .. } => {
             if own == to {
-                done_reply()
+                Reply::done()
             } else {
                 Reply::AccessDenied
             }

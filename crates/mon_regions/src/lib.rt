@@ -6,7 +6,6 @@
 #![tactic(auto)]
 
 mod after;
-mod bits;
 mod decide;
 
 pub use after::{after_accept_region, after_assign, after_block, after_flush, after_free};

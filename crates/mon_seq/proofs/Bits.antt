@@ -4,7 +4,7 @@ use Rattle.std.specs.Int.{bit_at}
 use Rattle.std.proofs.lemmas.Nat.Bits.{bit_at_lowest, bit_at-suc, bit_at-zero}
 use Rattle.std.proofs.lemmas.Bool.{eqb-true, eqb-false}
 use Rattle.std.proofs.lemmas.Bool.Decides.{eqb_tells}
-use Rattle.mon_model.specs.Bits.{has_bit, with_bit, without_bit}
+use Rattle.mon_types.specs.Bits.{has_bit, with_bit, without_bit}
 
 -- ---- a power of two added where the bit is 0
 

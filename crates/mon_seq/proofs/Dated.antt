@@ -17,8 +17,8 @@ use Rattle.mon_types.specs.declared.thread.Mode.TheVariants as modes
 use Rattle.mon_types.specs.declared.call.Call.{Call}
 use Rattle.mon_types.specs.declared.call.Call.TheVariants as calls
 use Rattle.mon_model.specs.State.{State, start, region_at, enclave_at, mode_of, with_region, with_enclave}
-use Rattle.mon_model.specs.Replies.{is_done}
-use Rattle.mon_model.specs.Early.{os_word}
+use Rattle.mon_types.specs.Replies.{is_done}
+use Rattle.mon_types.specs.Owns.{os_word}
 use Rattle.mon_model.specs.RegionCalls.{blocked, assigned}
 use Rattle.mon_model.specs.EnclaveCalls.{deleted}
 use Rattle.mon_model.specs.Step.{effect, after, reply_of, without_own_region, with_deleted, regions_of}

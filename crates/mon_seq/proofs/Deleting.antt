@@ -6,7 +6,7 @@ use Rattle.mon_types.specs.Enclaves.{empty_enclave}
 use Rattle.mon_types.specs.declared.enclave.Enclave.{Enclave}
 use Rattle.mon_types.specs.declared.enclave.Loaded.{Loaded}
 use Rattle.mon_model.specs.State.{State, region_at, enclave_at, with_region, with_slot}
-use Rattle.mon_model.specs.Bits.{member, members}
+use Rattle.mon_types.specs.Bits.{member, members}
 use Rattle.mon_model.specs.EnclaveCalls.{deleted}
 use Rattle.mon_model.specs.Step.{with_deleted, regions_of}
 use Rattle.mon_seq.specs.Deleted.{deleted_in}

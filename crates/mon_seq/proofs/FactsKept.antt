@@ -28,15 +28,17 @@ use Rattle.mon_types.specs.declared.call.Call.TheVariants as calls
 use Rattle.mon_types.specs.declared.reply.Reply.{Reply}
 use Rattle.mon_types.specs.declared.reply.Reply.TheVariants as replies
 use Rattle.mon_model.specs.State.{State, start, region_at, enclave_at, thread_at, mode_of, loaded_at, with_region, with_enclave, with_thread, with_mode, with_slot}
-use Rattle.mon_model.specs.Bits.{has_bit, members}
-use Rattle.mon_model.specs.Replies.{done, is_done}
-use Rattle.mon_model.specs.Early.{AnEnclave, TheOs, os_word, shuts_out, is_unsupported, is_wrong_mode, is_bad_value}
+use Rattle.mon_types.specs.Bits.{has_bit, members}
+use Rattle.mon_types.specs.Replies.{done, is_done}
+use Rattle.mon_types.specs.Owns.{os_word}
+use Rattle.mon_model.specs.Early.{AnEnclave, TheOs, shuts_out, is_unsupported, is_wrong_mode, is_bad_value}
 use Rattle.mon_model.specs.RegionCalls.{is_empty, is_loading, is_initialized, is_free, loses_region, gains_region, block_reply, blocked, free_reply, assign_reply, assigned, with_assigned, accept_region_reply}
 use Rattle.mon_model.specs.Loading.{is_next_page}
 use Rattle.mon_model.specs.EnclaveCalls.{created, create_reply, initialized, delete_reply}
 use Rattle.mon_model.specs.ThreadCalls.{is_no_state, is_ready_in, ready, one_more, with_thread_loaded, without_thread, load_thread_reply, delete_thread_reply, enter_reply, running, stopped}
 use Rattle.mon_model.specs.MailCalls.{with_mailbox}
-use Rattle.mon_model.specs.Step.{own_slot, own_thread, held_reply, without_own_region, with_item, with_deleted, regions_of, effect, or_else, reply_of, after}
+use Rattle.mon_types.specs.Modes.{own_slot, own_thread}
+use Rattle.mon_model.specs.Step.{held_reply, without_own_region, with_item, with_deleted, regions_of, effect, or_else, reply_of, after}
 use Rattle.mon_seq.specs.Deleted.{deleted_in}
 use Rattle.mon_seq.specs.Facts.{is_owned_by, is_thread_of, is_reserved, IsPlaced, FactsHold}
 use Rattle.mon_seq.specs.Tables.{NamesSlots, AreTables}

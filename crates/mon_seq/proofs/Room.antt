@@ -4,7 +4,7 @@ use Rattle.mon_types.specs.Shape.{Shape}
 use Rattle.mon_types.specs.declared.region.Region.{Region}
 use Rattle.mon_types.specs.declared.enclave.Enclave.{Enclave}
 use Rattle.mon_types.specs.declared.enclave.Loaded.{Loaded}
-use Rattle.mon_model.specs.Replies.{is_done}
+use Rattle.mon_types.specs.Replies.{is_done}
 use Rattle.mon_model.specs.EnclaveCalls.{load_table_reply, load_page_reply, reserve_reply}
 use Rattle.mon_seq.specs.Tables.{IsSlot}
 use Rattle.mon_seq.proofs.Sound.{table_takes, page_takes, reserve_takes}

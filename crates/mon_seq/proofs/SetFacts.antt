@@ -9,7 +9,7 @@ use Rattle.mon_types.specs.declared.region.Owner.TheVariants as owners
 use Rattle.mon_types.specs.declared.region.Region.{Region}
 use Rattle.mon_types.specs.declared.region.Region.TheVariants as regions
 use Rattle.mon_types.specs.declared.enclave.Enclave.{Enclave}
-use Rattle.mon_model.specs.Bits.{has_bit, with_bit, without_bit, member, members}
+use Rattle.mon_types.specs.Bits.{has_bit, with_bit, without_bit, member, members}
 use Rattle.mon_model.specs.EnclaveCalls.{deleted}
 use Rattle.mon_seq.specs.Deleted.{deleted_in}
 use Rattle.mon_seq.specs.Facts.{is_enclave, is_owned_by}

@@ -9,7 +9,7 @@ use Rattle.mon_types.specs.declared.enclave.Stage.{Stage}
 use Rattle.mon_types.specs.declared.enclave.Stage.TheVariants as stages
 use Rattle.mon_types.specs.declared.enclave.Enclave.{Enclave}
 use Rattle.mon_types.specs.declared.enclave.Loaded.{Loaded}
-use Rattle.mon_model.specs.Bits.{has_bit}
+use Rattle.mon_types.specs.Bits.{has_bit}
 use Rattle.mon_model.specs.RegionCalls.{is_empty, is_loading, is_initialized}
 use Rattle.mon_seq.specs.Facts.{IsPlaced}
 use Rattle.mon_seq.proofs.OneChanged.{at_set}

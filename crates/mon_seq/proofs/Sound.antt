@@ -21,12 +21,13 @@ use Rattle.mon_types.specs.declared.call.Call.TheVariants as calls
 use Rattle.mon_types.specs.declared.reply.Reply.{Reply}
 use Rattle.mon_types.specs.declared.reply.Reply.TheVariants as replies
 use Rattle.mon_model.specs.State.{State, start, enclave_at, loaded_at, mode_of, with_region, with_enclave, with_thread, with_flushed, with_mode, with_slot}
-use Rattle.mon_model.specs.Replies.{is_done}
-use Rattle.mon_model.specs.Early.{os_word}
+use Rattle.mon_types.specs.Replies.{is_done, done_if}
+use Rattle.mon_types.specs.Owns.{os_word}
 use Rattle.mon_model.specs.RegionCalls.{is_loading, is_initialized, gains_region, with_assigned}
 use Rattle.mon_model.specs.Loading.{has_root, is_next_page, takes_page, has_place_for_leaf}
-use Rattle.mon_model.specs.EnclaveCalls.{done_if, init_reply, is_os_owned, leaf_fits, load_table_reply, load_page_reply, reserve_reply}
-use Rattle.mon_model.specs.Step.{own_slot, held_reply, effect, with_item, with_deleted, regions_of, without_own_region}
+use Rattle.mon_model.specs.EnclaveCalls.{init_reply, is_os_owned, leaf_fits, load_table_reply, load_page_reply, reserve_reply}
+use Rattle.mon_types.specs.Modes.{own_slot}
+use Rattle.mon_model.specs.Step.{held_reply, effect, with_item, with_deleted, regions_of, without_own_region}
 use Rattle.mon_enclaves.specs.FromItems.{StandInPages}
 use Rattle.mon_seq.specs.Tables.{NamesSlots, IsRooted, IsSlot, AreTables}
 use Rattle.mon_model.specs.InRange.{IsInRange}

@@ -12,7 +12,7 @@ use Rattle.mon_types.specs.declared.thread.Thread.{Thread}
 use Rattle.mon_types.specs.declared.thread.Mode.{Mode}
 use Rattle.mon_types.specs.declared.thread.Mode.TheVariants as modes
 use Rattle.mon_model.specs.RegionCalls.{is_initialized}
-use Rattle.mon_model.specs.Step.{own_slot, own_thread}
+use Rattle.mon_types.specs.Modes.{own_slot, own_thread}
 use Rattle.mon_seq.specs.Facts.{is_thread_of}
 use Rattle.mon_seq.proofs.OneChanged.{same-is, at_set}
 

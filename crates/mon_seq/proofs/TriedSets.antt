@@ -10,7 +10,7 @@ use Rattle.std.proofs.lemmas.Bool.Decides.{leb_tells}
 use Rattle.std.proofs.lemmas.List.Sums.{sum_by-append, sum_by-cons}
 use Rattle.mon_types.specs.declared.object.ObjectId.TheVariants as objects
 use Rattle.mon_types.specs.declared.object.Tried.{Tried}
-use Rattle.mon_model.specs.Bits.{has_bit, member, members}
+use Rattle.mon_types.specs.Bits.{has_bit, member, members}
 use Rattle.mon_model.specs.Tries.{all_cells, add_tried, tried_set}
 
 abbrev pub tried_of : ℕ → ℕ → ℕ → ℕ → Tried

@@ -15,7 +15,7 @@ use Rattle.mon_types.specs.declared.thread.Mode.TheVariants as modes
 use Rattle.mon_types.specs.declared.thread.ThreadState.{ThreadState}
 use Rattle.mon_types.specs.declared.thread.ThreadState.TheVariants as states
 use Rattle.mon_model.specs.State.{State, region_at, enclave_at, thread_at, mode_of, loaded_at}
-use Rattle.mon_model.specs.Bits.{has_bit}
+use Rattle.mon_types.specs.Bits.{has_bit}
 use Rattle.mon_model.specs.RegionCalls.{is_empty, is_loading, is_initialized}
 use Rattle.mon_seq.specs.Tables.{IsRooted}
 

@@ -2,8 +2,8 @@
 
 ghost use Rattle.std.specs.Prelude.{◌≡◌, ◌<◌, [], replicate, IfOk};
 ghost use Rattle.mon_model.specs.State.{start};
-ghost use Rattle.mon_model.specs.Replies.{is_done};
-ghost use Rattle.mon_model.specs.Step.{own_slot, own_thread};
+ghost use Rattle.mon_types.specs.Replies.{is_done};
+ghost use Rattle.mon_types.specs.Modes.{own_slot, own_thread};
 ghost use Rattle.mon_seq.specs.Tables.{NamesSlots, AreTables};
 
 use crate::loads::Loads;

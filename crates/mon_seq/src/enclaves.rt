@@ -2,9 +2,9 @@
 
 ghost use Rattle.std.specs.Prelude.{◌≡◌, ◌<◌, ◌≤◌, [], length, if◌then◌else◌};
 ghost use Rattle.mon_types.specs.Enclaves.{empty_enclave};
-ghost use Rattle.mon_model.specs.Bits.{has_bit, member, members};
+ghost use Rattle.mon_types.specs.Bits.{has_bit, member, members};
 ghost use Rattle.mon_model.specs.State.{enclave_at, with_enclave, with_slot};
-ghost use Rattle.mon_model.specs.Replies.{done, is_done};
+ghost use Rattle.mon_types.specs.Replies.{done, is_done};
 ghost use Rattle.mon_model.specs.EnclaveCalls.{create_reply, created, init_reply, initialized, delete_reply, deleted, enclave_info_reply};
 ghost use Rattle.mon_model.specs.Step.{with_deleted, regions_of};
 ghost use Rattle.mon_seq.specs.Deleted.{deleted_in};
@@ -89,7 +89,7 @@ impl Board {
     }
 
     /// delete of the enclave in slot e.
-    #[tactic(auto, using(mon_types::specs::Limits::few_regions, crate::proofs::Deleting::with_deleted_in))]
+    #[tactic(auto, using(mon_types::specs::LimitLaws::few_regions, crate::proofs::Deleting::with_deleted_in))]
     pub fn delete(&mut self, call: &Call, ticket: u32, e: u64) -> Reply
         requires tables { AreTables self.old }
         requires e { e < 8 }

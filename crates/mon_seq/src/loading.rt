@@ -3,7 +3,7 @@
 ghost use Rattle.std.specs.Prelude.{◌≡◌, ◌<◌, true, length, if◌then◌else◌};
 ghost use Rattle.mon_types.specs.Shape.{page_total, region_of_page};
 ghost use Rattle.mon_model.specs.State.{enclave_at, loaded_at, region_at};
-ghost use Rattle.mon_model.specs.Replies.{is_done};
+ghost use Rattle.mon_types.specs.Replies.{is_done};
 ghost use Rattle.mon_model.specs.Loading.{table_kind};
 ghost use Rattle.mon_model.specs.EnclaveCalls.{load_table_reply, load_page_reply, reserve_reply, with_table, with_page, with_reserved};
 ghost use Rattle.mon_model.specs.Step.{with_item};
@@ -84,7 +84,7 @@ fn reply_to_reserve(config: &Config, enclave: &Enclave, items: &Loads, va: u64, 
 
 impl Board {
     /// load_table of this level for va into the page, of the enclave in slot e.
-    #[tactic(auto, using(mon_types::specs::Limits::few_pages))]
+    #[tactic(auto, using(mon_types::specs::LimitLaws::few_pages))]
     pub fn load_table(
         &mut self,
         call: &Call,
@@ -117,7 +117,7 @@ impl Board {
     }
 
     /// load_page for va into the page, of the enclave in slot e. `digest` is that of page `src`.
-    #[tactic(auto, using(mon_types::specs::Limits::few_pages))]
+    #[tactic(auto, using(mon_types::specs::LimitLaws::few_pages))]
     pub fn load_page(
         &mut self,
         call: &Call,
@@ -153,7 +153,7 @@ impl Board {
     }
 
     /// reserve of the page for va, of the enclave in slot e.
-    #[tactic(auto, using(mon_types::specs::Limits::few_pages))]
+    #[tactic(auto, using(mon_types::specs::LimitLaws::few_pages))]
     pub fn reserve(
         &mut self,
         call: &Call,

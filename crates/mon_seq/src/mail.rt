@@ -2,7 +2,7 @@
 
 ghost use Rattle.std.specs.Prelude.{◌≡◌, ◌<◌, ◌∷◌, [], if◌then◌else◌};
 ghost use Rattle.mon_model.specs.State.{enclave_at, with_enclave};
-ghost use Rattle.mon_model.specs.Replies.{done, is_done};
+ghost use Rattle.mon_types.specs.Replies.{done, is_done};
 ghost use Rattle.mon_model.specs.MailCalls.{with_mailbox, send_reply, sent, read_reply};
 ghost use Rattle.mon_mail.specs.Named.{named_mailbox, named_words, IsSend};
 ghost use Rattle.mon_seq.specs.Tables.{AreTables};

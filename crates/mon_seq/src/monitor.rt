@@ -2,7 +2,7 @@
 
 ghost use Rattle.std.specs.Prelude.{◌≡◌, ◌<◌, ◌^◌, ◌-◌, false, length, IfOk};
 ghost use Rattle.mon_model.specs.State.{start};
-ghost use Rattle.mon_model.specs.Replies.{is_concurrent};
+ghost use Rattle.mon_types.specs.Replies.{is_concurrent};
 ghost use Rattle.mon_model.specs.Step.{reply_of};
 ghost use Rattle.mon_model.specs.Tries.{tries, tried_set};
 ghost use Rattle.mon_seq.specs.Sequential.{then_call, then_skip};

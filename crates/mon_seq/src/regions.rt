@@ -3,9 +3,10 @@
 ghost use Rattle.std.specs.Prelude.{◌≡◌, ◌<◌, if◌then◌else◌};
 ghost use Rattle.std.specs.List.{slice_index_or};
 ghost use Rattle.mon_model.specs.State.{region_at, enclave_at, with_region, with_enclave, with_flushed};
-ghost use Rattle.mon_model.specs.Replies.{done, is_done};
+ghost use Rattle.mon_types.specs.Replies.{done, is_done};
 ghost use Rattle.mon_model.specs.RegionCalls.{block_reply, blocked, loses_region, free_reply, assign_reply, assigned, with_assigned, region_info_reply, accept_region_reply, gains_region};
-ghost use Rattle.mon_model.specs.Step.{own_slot, assignee, without_own_region, assign_effect};
+ghost use Rattle.mon_types.specs.Modes.{own_slot};
+ghost use Rattle.mon_model.specs.Step.{assignee, without_own_region, assign_effect};
 ghost use Rattle.mon_seq.specs.Tables.{NamesSlots, AreTables};
 
 use crate::board::{Board, is_ok, own_slot_of};
@@ -45,7 +46,7 @@ fn decide_give(enclave: &Enclave, region: &Region) -> Reply
 
 impl Board {
     /// block of region r.
-    #[tactic(auto, using(mon_types::specs::Limits::few_regions))]
+    #[tactic(auto, using(mon_types::specs::LimitLaws::few_regions))]
     pub fn block(&mut self, call: &Call, mode: Mode, ticket: u32, r: u64) -> Reply
         requires tables { AreTables self.old }
         requires call { call.now ≡ Call.Block r }
@@ -99,7 +100,7 @@ impl Board {
         }
     }
 
-    #[tactic(auto, using(mon_types::specs::Limits::few_regions))]
+    #[tactic(auto, using(mon_types::specs::LimitLaws::few_regions))]
     fn assign_to_os(&mut self, call: &Call, ticket: u32, r: u64) -> Reply
         requires tables { AreTables self.old }
         requires call { call.now ≡ Call.Assign r OS_WORD }
@@ -115,7 +116,7 @@ impl Board {
         reply
     }
 
-    #[tactic(auto, using(mon_types::specs::Limits::few_regions))]
+    #[tactic(auto, using(mon_types::specs::LimitLaws::few_regions))]
     fn assign_to_enclave(&mut self, call: &Call, ticket: u32, r: u64, to: u64) -> Reply
         requires tables { AreTables self.old }
         requires call { call.now ≡ Call.Assign r to }
@@ -154,7 +155,7 @@ impl Board {
     }
 
     /// accept_region of region r, by the enclave in slot `own`.
-    #[tactic(auto, using(mon_types::specs::Limits::few_regions))]
+    #[tactic(auto, using(mon_types::specs::LimitLaws::few_regions))]
     pub fn accept_region(&mut self, call: &Call, own: u8, ticket: u32, r: u64) -> Reply
         requires tables { AreTables self.old }
         requires call { call.now ≡ Call.AcceptRegion r }

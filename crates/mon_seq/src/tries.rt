@@ -2,9 +2,9 @@
 
 ghost use Rattle.std.specs.Prelude.{◌≡◌, ◌<◌, ◌≤◌, ◌^◌, ◌-◌, ◌%◌, ◌∷◌, length, map, None};
 ghost use Rattle.mon_types.specs.Shape.{page_total};
-ghost use Rattle.mon_model.specs.Bits.{members};
+ghost use Rattle.mon_types.specs.Bits.{members};
 ghost use Rattle.mon_model.specs.Early.{early};
-ghost use Rattle.mon_model.specs.Step.{own_slot, own_thread};
+ghost use Rattle.mon_types.specs.Modes.{own_slot, own_thread};
 ghost use Rattle.mon_model.specs.Tries.{free_tries, assign_tries, own_enclave, send_tries, tried_set};
 ghost use Rattle.mon_seq.specs.Tables.{NamesSlots};
 ghost use Rattle.mon_seq.specs.Tried.{AreTries, AreHeldTries};
@@ -168,7 +168,7 @@ pub fn tried_by(
 }
 
 /// The same of a call that is not refused early.
-#[tactic(auto, using(mon_types::specs::Limits::few_cores, mon_types::specs::Limits::few_regions, mon_types::specs::Limits::few_pages))]
+#[tactic(auto, using(mon_types::specs::LimitLaws::few_cores, mon_types::specs::LimitLaws::few_regions, mon_types::specs::LimitLaws::few_pages))]
 fn held_tried(
     config: &Config,
     core: u8,

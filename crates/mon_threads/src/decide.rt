@@ -1,37 +1,17 @@
 //! What the calls on threads answer once their objects are held.
 
 ghost use Rattle.std.specs.Prelude.{◌≡◌};
-ghost use Rattle.mon_model.specs.Replies.{done, told};
+ghost use Rattle.mon_types.specs.Replies.{done, told};
 ghost use Rattle.mon_model.specs.ThreadCalls.{is_ready_in, load_thread_reply, delete_thread_reply, enter_reply, restore_reply};
 
 use mon_types::{Enclave, Reply, Stage, Thread, ThreadState};
-
-/// Ok with no words.
-fn done_reply() -> Reply
-    ensures { result ≡ done }
-{
-    Reply::Ok {
-        count: 0,
-        words: [0; 8],
-    }
-}
-
-/// Ok with one word.
-fn told_reply(word: u32) -> Reply
-    ensures { result ≡ told word }
-{
-    Reply::Ok {
-        count: 1,
-        words: [u64::from(word), 0, 0, 0, 0, 0, 0, 0],
-    }
-}
 
 /// load_thread: InvalidState where the enclave is not Loading or the thread slot is not Empty.
 pub fn decide_load_thread(enclave: &Enclave, thread: &Thread) -> Reply
     ensures { result ≡ load_thread_reply enclave.now thread.now }
 {
     if enclave.stage == Stage::Loading && thread.state == ThreadState::Empty {
-        done_reply()
+        Reply::done()
     } else {
         Reply::InvalidState
     }
@@ -53,7 +33,7 @@ pub fn decide_delete_thread(e: u8, thread: &Thread) -> Reply
     ensures { result ≡ delete_thread_reply e thread.now }
 {
     if is_ready(thread.state, e) {
-        done_reply()
+        Reply::done()
     } else {
         Reply::InvalidState
     }
@@ -65,7 +45,7 @@ pub fn decide_enter(e: u8, enclave: &Enclave, thread: &Thread) -> Reply
     ensures { result ≡ enter_reply e enclave.now thread.now }
 {
     if enclave.stage == Stage::Initialized && is_ready(thread.state, e) {
-        done_reply()
+        Reply::done()
     } else {
         Reply::InvalidState
     }
@@ -75,14 +55,14 @@ pub fn decide_enter(e: u8, enclave: &Enclave, thread: &Thread) -> Reply
 pub fn decide_exit() -> Reply
     ensures { result ≡ done }
 {
-    done_reply()
+    Reply::done()
 }
 
 /// aex, which has no refusal here.
 pub fn decide_aex() -> Reply
     ensures { result ≡ done }
 {
-    done_reply()
+    Reply::done()
 }
 
 /// restore, by the own thread: InvalidState where nothing is saved. The word is the ticket of the save.
@@ -92,6 +72,6 @@ pub fn decide_restore(thread: &Thread) -> Reply
     if thread.saved_at == 0 {
         Reply::InvalidState
     } else {
-        told_reply(thread.saved_at)
+        Reply::told(u64::from(thread.saved_at))
     }
 }

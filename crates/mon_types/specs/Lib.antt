@@ -6,4 +6,8 @@ pub mod Enclaves
 pub mod Threads
 pub mod Objects
 pub mod Calls
-pub mod Limits
+pub mod LimitLaws
+pub mod Bits
+pub mod Replies
+pub mod Modes
+pub mod Budgets

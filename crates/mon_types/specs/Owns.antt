@@ -5,6 +5,10 @@ use Rattle.mon_types.specs.declared.region.Owner.TheVariants as owners
 use Rattle.mon_types.specs.declared.region.Region.{Region}
 use Rattle.mon_types.specs.declared.region.Region.TheVariants as regions
 
+-- the word that names the OS in arguments and replies
+abbrev pub os_word : ℕ
+os_word = 18446744073709551615
+
 -- the OS, or an enclave slot below 8
 abbrev pub IsOwner : Owner → Type 0
 IsOwner owners.Os = ⊤

@@ -4,6 +4,7 @@
 //! and how a record is packed into words.
 #![tactic(auto)]
 
+mod bits;
 mod call;
 mod config;
 mod enclave;
@@ -15,12 +16,14 @@ mod object;
 mod region;
 mod reply;
 mod script;
+mod sizes;
 #[cfg(test)]
 mod tests;
 mod thread;
 mod thread_row;
 mod words;
 
+pub use bits::{has_bit, with_bit, without_bit};
 pub use call::Call;
 pub use config::Config;
 pub use enclave::{Enclave, Loaded, LoadedKind, Mailbox, Stage};
@@ -32,5 +35,9 @@ pub use object::{ObjectId, Tried};
 pub use region::{OS_WORD, Owner, Region, pack_at, pack_own, unpack_own};
 pub use reply::Reply;
 pub use script::{Line, Script, StepItem};
+pub use sizes::{
+    ANSWER_BUDGET, EVENT_BUDGET, LINE_ANSWERS, LINE_EVENTS, MOST_CORES, MOST_PAGES, MOST_REGIONS,
+    PAGE_BYTES, PAGE_WORDS, SLOTS, THREADS, TICK_CAUSE,
+};
 pub use thread::{Mode, Thread, ThreadState};
 pub use thread_row::{thread_of, thread_words};

@@ -1,5 +1,8 @@
 //! What a monitor call answers.
 
+ghost use Rattle.std.specs.Prelude.{◌≡◌};
+ghost use Rattle.mon_types.specs.Replies.{done, done_if, told, told_four, told_eight, is_done};
+
 use crate::object::ObjectId;
 
 /// The reply to a monitor call.
@@ -26,4 +29,61 @@ pub enum Reply {
     NotFlushed,
     /// There is no call of this number.
     Unsupported,
+}
+
+impl Reply {
+    /// Ok with no words.
+    pub fn done() -> Reply
+        ensures { result ≡ done }
+    {
+        Reply::Ok {
+            count: 0,
+            words: [0; 8],
+        }
+    }
+
+    /// Ok with no words where the call may be made, else InvalidState.
+    pub fn done_if(may: bool) -> Reply
+        ensures { result ≡ done_if may }
+    {
+        if may {
+            Reply::done()
+        } else {
+            Reply::InvalidState
+        }
+    }
+
+    /// Ok with one word.
+    pub fn told(word: u64) -> Reply
+        ensures { result ≡ told word }
+    {
+        Reply::Ok {
+            count: 1,
+            words: [word, 0, 0, 0, 0, 0, 0, 0],
+        }
+    }
+
+    /// Ok with four words.
+    pub fn told_four(a: u64, b: u64, c: u64, d: u64) -> Reply
+        ensures { result ≡ told_four a b c d }
+    {
+        Reply::Ok {
+            count: 4,
+            words: [a, b, c, d, 0, 0, 0, 0],
+        }
+    }
+
+    /// Ok with eight words.
+    pub fn told_eight(words: [u64; 8]) -> Reply
+        ensures { result ≡ told_eight words }
+    {
+        Reply::Ok { count: 8, words }
+    }
+
+    /// Whether the call was carried out.
+    pub fn is_ok(&self) -> bool
+        ensures { result ≡ is_done self.now }
+    {
+        matches!(self, Reply::Ok { .. })
+    }
 }

@@ -2,6 +2,7 @@
 
 ghost use Rattle.std.specs.Prelude.{◌≡◌};
 ghost use Rattle.mon_types.specs.Threads.{empty_thread};
+ghost use Rattle.mon_types.specs.Modes.{own_slot, own_thread};
 
 /// What a thread slot is. `enclave` is the slot of the enclave to which the thread belongs.
 #[derive(Clone, Copy, Debug, PartialEq, Eq)]
@@ -53,4 +54,26 @@ impl Default for Thread {
 pub enum Mode {
     Os,
     Inside { enclave: u8, thread: u8 },
+}
+
+impl Mode {
+    /// The slot of the enclave that the core is inside; 0 for the OS, of which no call asks this.
+    pub fn own_slot(self) -> u8
+        ensures { result ≡ own_slot self }
+    {
+        match self {
+            Mode::Os => 0,
+            Mode::Inside { enclave, .. } => enclave,
+        }
+    }
+
+    /// The slot of the thread by which it is inside; 0 for the OS, of which no call asks this.
+    pub fn own_thread(self) -> u8
+        ensures { result ≡ own_thread self }
+    {
+        match self {
+            Mode::Os => 0,
+            Mode::Inside { thread, .. } => thread,
+        }
+    }
 }

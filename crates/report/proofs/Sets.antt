@@ -2,7 +2,7 @@
 use Rattle.std.proofs.Common.{◌≡◌, ℕ, ◌+◌, List, ◌++◌, refl, sym, ap, ◌∙◌, append_assoc, append-nil, add-one}
 use Rattle.std.proofs.lemmas.Grind.{flat_map-append}
 use Rattle.std.specs.List.{flat_map}
-use Rattle.mon_model.specs.Bits.{member, members}
+use Rattle.mon_types.specs.Bits.{member, members}
 use Rattle.report.specs.Objects.{lettered, members_text}
 
 members-more : (set i : ℕ) → members set (i + 1) ≡ members set i ++ member set i

@@ -9,7 +9,7 @@ use Rattle.mon_types.specs.declared.region.Owner.TheVariants as owners
 use Rattle.mon_types.specs.declared.object.ObjectId.{ObjectId}
 use Rattle.mon_types.specs.declared.object.ObjectId.TheVariants as objects
 use Rattle.mon_types.specs.declared.object.Tried.{Tried}
-use Rattle.mon_model.specs.Bits.{members}
+use Rattle.mon_types.specs.Bits.{members}
 use Rattle.mon_model.specs.Measure.{to_bytes}
 
 -- a number after a space

@@ -3,7 +3,7 @@
 ghost use Rattle.std.specs.Prelude.{◌≡◌, ◌≤◌, ◌<◌, ◌+◌, ◌*◌, ◌++◌, length, codes};
 ghost use Rattle.std.specs.Fmt.{decimal};
 ghost use Rattle.std.specs.List.{flat_map};
-ghost use Rattle.mon_model.specs.Bits.{has_bit, member};
+ghost use Rattle.mon_types.specs.Bits.{has_bit, member};
 ghost use Rattle.report.specs.Objects.{object_text, owner_text, lettered, members_text, tried_text, enclave_letter, thread_letter, region_letter, cell_letter};
 
 use crate::line::{LINE, Line};

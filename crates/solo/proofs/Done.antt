@@ -7,10 +7,10 @@ use Rattle.mon_types.specs.declared.call.Call.TheVariants as calls
 use Rattle.mon_types.specs.declared.reply.Reply.{Reply}
 use Rattle.mon_types.specs.declared.reply.Reply.TheVariants as replies
 use Rattle.mon_model.specs.State.{State, mode_of, enclave_at, region_at, loaded_at}
-use Rattle.mon_model.specs.Replies.{is_done}
+use Rattle.mon_types.specs.Replies.{is_done, done_if}
 use Rattle.mon_model.specs.Early.{is_unsupported, is_wrong_mode, is_bad_value, early}
 use Rattle.mon_model.specs.Loading.{takes_page, has_place_for_leaf}
-use Rattle.mon_model.specs.EnclaveCalls.{done_if, leaf_fits, is_os_owned}
+use Rattle.mon_model.specs.EnclaveCalls.{leaf_fits, is_os_owned}
 use Rattle.mon_model.specs.Step.{held_reply, or_else, reply_of}
 use Rattle.mon_model.specs.InRange.{IsInRange, not_refused}
 use Rattle.hist.specs.declared.event.PageInput.{PageInput}

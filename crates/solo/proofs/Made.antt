@@ -3,7 +3,7 @@ use Rattle.std.proofs.Common.{◌≡◌, ◌≢◌, ℕ, ◌+◌, Bool, true, co
 use Rattle.mon_types.specs.declared.call.Call.{Call}
 use Rattle.mon_types.specs.declared.reply.Reply.{Reply}
 use Rattle.mon_types.specs.declared.object.Tried.{Tried}
-use Rattle.mon_model.specs.Replies.{is_done}
+use Rattle.mon_types.specs.Replies.{is_done}
 use Rattle.mon_model.specs.Step.{reply_of, after}
 use Rattle.mon_model.specs.Tries.{tries, tried_set}
 use Rattle.hist.specs.declared.event.PageInput.{PageInput}

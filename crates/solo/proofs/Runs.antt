@@ -12,7 +12,7 @@ use Rattle.mon_types.specs.declared.call.Call.TheVariants as calls
 use Rattle.mon_types.specs.declared.script.Line.{Line}
 use Rattle.mon_types.specs.declared.script.Line.TheVariants as lines
 use Rattle.mon_model.specs.State.{State, start}
-use Rattle.mon_model.specs.Replies.{is_done}
+use Rattle.mon_types.specs.Replies.{is_done}
 use Rattle.mon_model.specs.EveryReply.{reply_has, never_met}
 use Rattle.mon_model.specs.EveryStep.{after_shape}
 use Rattle.mon_model.specs.Step.{reply_of, effect, after}

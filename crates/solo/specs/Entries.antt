@@ -6,7 +6,7 @@ use Rattle.mon_types.specs.declared.enclave.Enclave.{Enclave}
 use Rattle.mon_types.specs.declared.call.Call.{Call}
 use Rattle.mon_types.specs.declared.call.Call.TheVariants as calls
 use Rattle.mon_model.specs.State.{State, enclave_at, region_at}
-use Rattle.mon_model.specs.Replies.{is_done}
+use Rattle.mon_types.specs.Replies.{is_done}
 use Rattle.mon_enclaves.specs.Entries.{first_frame, frame_of, leads_to_table, table_path, leaf_path, table_reply, page_reply, reserved_reply}
 use Rattle.solo.specs.Memory.{word_at}
 

@@ -10,9 +10,10 @@ use Rattle.mon_types.specs.declared.reply.Reply.{Reply}
 use Rattle.mon_types.specs.declared.script.Line.{Line}
 use Rattle.mon_types.specs.declared.script.Line.TheVariants as lines
 use Rattle.mon_model.specs.State.{State, start, mode_of, thread_at}
-use Rattle.mon_model.specs.Replies.{is_done}
+use Rattle.mon_types.specs.Replies.{is_done}
 use Rattle.mon_model.specs.Early.{early}
-use Rattle.mon_model.specs.Step.{own_thread, reply_of, after}
+use Rattle.mon_types.specs.Modes.{own_thread}
+use Rattle.mon_model.specs.Step.{reply_of, after}
 use Rattle.mon_model.specs.Tries.{tries, tried_set}
 use Rattle.mon_model.specs.Measure.{page_digest}
 use Rattle.hist.specs.declared.event.PageInput.{PageInput}

@@ -3,8 +3,8 @@
 ghost use Rattle.std.specs.Prelude.{◌≡◌, ◌≢◌, ◌+◌, ◌*◌, ◌^◌, ◌<◌, ◌≤◌, [], ◌++◌, map, length, None, if◌then◌else◌};
 ghost use Rattle.mon_types.specs.Shape.{page_total};
 ghost use Rattle.mon_model.specs.State.{thread_at};
-ghost use Rattle.mon_model.specs.Replies.{is_done};
-ghost use Rattle.mon_model.specs.Step.{own_thread};
+ghost use Rattle.mon_types.specs.Replies.{is_done};
+ghost use Rattle.mon_types.specs.Modes.{own_thread};
 ghost use Rattle.mon_model.specs.InRange.{IsInRange};
 ghost use Rattle.hist.specs.History.{digest_of};
 ghost use Rattle.solo.specs.Memory.{word_at};

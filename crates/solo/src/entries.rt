@@ -3,7 +3,7 @@
 ghost use Rattle.std.specs.Prelude.{◌≡◌, ◌<◌, ◌≤◌, [], length, Some, None, IfSome, if◌then◌else◌};
 ghost use Rattle.mon_types.specs.Shape.{page_total};
 ghost use Rattle.mon_model.specs.State.{State, mode_of};
-ghost use Rattle.mon_model.specs.Replies.{is_done};
+ghost use Rattle.mon_types.specs.Replies.{is_done};
 ghost use Rattle.mon_model.specs.Early.{early};
 ghost use Rattle.mon_enclaves.specs.Entries.{leads_to_table, table_path};
 ghost use Rattle.mon_model.specs.InRange.{IsInRange};

@@ -1,5 +1,5 @@
 use Rattle.std.proofs.Common.{◌≡◌, ◌≤◌, length}
-use Rattle.mon_model.specs.Bits.{members}
+use Rattle.mon_types.specs.Bits.{members}
 use Rattle.lock_plan.proofs.plan.nth_region.Given as goal
 
 -- the members below r were skipped

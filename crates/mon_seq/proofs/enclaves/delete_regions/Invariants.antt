@@ -1,5 +1,5 @@
 use Rattle.std.proofs.Common.{◌≡◌}
-use Rattle.mon_model.specs.Bits.{members}
+use Rattle.mon_types.specs.Bits.{members}
 use Rattle.mon_seq.specs.Deleted.{deleted_in}
 use Rattle.mon_seq.proofs.enclaves.delete_regions.Given as goal
 

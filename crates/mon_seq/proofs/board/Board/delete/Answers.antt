@@ -3,7 +3,7 @@ use Rattle.std.proofs.lemmas.List.{get_or_read, with_items_is, places}
 use Rattle.mon_types.specs.Enclaves.{empty_enclave}
 use Rattle.mon_types.specs.declared.enclave.Enclave.{Enclave}
 use Rattle.mon_model.specs.State.{State, with_slot}
-use Rattle.mon_model.specs.Replies.{is_done}
+use Rattle.mon_types.specs.Replies.{is_done}
 use Rattle.mon_model.specs.Step.{with_deleted, regions_of}
 use Rattle.mon_seq.proofs.Deleting.{deleted_all}
 use Rattle.mon_seq.proofs.board.Board.delete.Goals as goal

@@ -3,7 +3,7 @@ use Rattle.mon_types.specs.Shape.{Shape}
 use Rattle.mon_model.specs.State.{mode_of}
 use Rattle.mon_model.specs.Early.{early}
 use Rattle.mon_model.specs.InRange.{IsInRange}
-use Rattle.mon_model.specs.Replies.{is_done}
+use Rattle.mon_types.specs.Replies.{is_done}
 use Rattle.mon_model.specs.Step.{reply_of, after}
 use Rattle.mon_seq.specs.Sequential.{Sequential}
 use Rattle.solo.specs.Memory.{word_at}

@@ -1,11 +1,15 @@
 -- Replies of Ok with so many words, and which replies are Ok. This project's own.
-use Rattle.std.specs.Prelude.{ℕ, Bool, true, false, List, [], ◌∷◌}
+use Rattle.std.specs.Prelude.{ℕ, Bool, true, false, if◌then◌else◌, List, [], ◌∷◌}
 use Rattle.mon_types.specs.declared.reply.Reply.{Reply}
 use Rattle.mon_types.specs.declared.reply.Reply.TheVariants as replies
 
 -- Ok with no words
 abbrev pub done : Reply
 done = replies.Ok 0 (0 ∷ 0 ∷ 0 ∷ 0 ∷ 0 ∷ 0 ∷ 0 ∷ 0 ∷ [])
+
+-- Ok with no words where a call may be made, else InvalidState
+abbrev pub done_if : Bool → Reply
+done_if may = if may then done else replies.InvalidState
 
 -- Ok with one word, with four, and with four and four
 abbrev pub told : ℕ → Reply
@@ -17,6 +21,7 @@ told_four a b c d = replies.Ok 4 (a ∷ b ∷ c ∷ d ∷ 0 ∷ 0 ∷ 0 ∷ 0 �
 abbrev pub told_eight : List ℕ → Reply
 told_eight words = replies.Ok 8 words
 
+-- whether the call was carried out
 abbrev pub is_done : Reply → Bool
 is_done (replies.Ok count words) = true
 is_done replies.InvalidValue = false
@@ -26,6 +31,7 @@ is_done (replies.ConcurrentCall lock holder serial) = false
 is_done replies.NotFlushed = false
 is_done replies.Unsupported = false
 
+-- whether the call met a lock that another core held
 abbrev pub is_concurrent : Reply → Bool
 is_concurrent (replies.Ok count words) = false
 is_concurrent replies.InvalidValue = false

@@ -1,9 +1,9 @@
--- A set of regions has room for a region that it has not.
+-- A set has room for a number that it has not.
 use Rattle.std.proofs.Common.{◌≡◌, ℕ, suc, ◌+◌, ◌-◌, ◌*◌, ◌/◌, ◌%◌, ◌^◌, ◌<◌, ◌≤◌, false, nat_eq, sym, ap, ◌∙◌, subst, arith}
 use Rattle.std.proofs.Math.Nat.{pow-succ', lt-mul-div-succ, mul-le-mul_left, div-lt_iff_lt-mul}
 use Rattle.std.proofs.lemmas.Nat.{pow-add, pow_pos}
 use Rattle.std.proofs.lemmas.Bool.{eqb-false}
-use Rattle.mon_model.specs.Bits.{has_bit}
+use Rattle.mon_types.specs.Bits.{has_bit}
 
 -- the set has an even number of whole p, and the top an even number too
 room : (p m set : ℕ) → 0 < p → set < (2 * m) * p → nat_eq (set / p % 2) 1 ≡ false → set + p < (2 * m) * p
@@ -14,9 +14,9 @@ room p m set pos lt even =
     let most : p * (set / p + 2) ≤ p * (2 * m) = mul-le-mul_left p (omega arith) in
     omega arith
 
-pub room_for_region : (set r : ℕ) → r < 64 → set < 2 ^ 64 → has_bit set r ≡ false → set + 2 ^ r < 2 ^ 64
-room_for_region set r small lt none =
-    let whole : suc (63 - r) + r ≡ 64 = omega arith in
-    let split : (2 * 2 ^ (63 - r)) * 2 ^ r ≡ 2 ^ 64 =
-    sym (ap (λ (n : ℕ). n * 2 ^ r) (pow-succ' 2 (63 - r))) ∙ sym (pow-add 2 (suc (63 - r)) r) ∙ ap (λ (n : ℕ). 2 ^ n) whole in
-    subst (λ (n : ℕ). set + 2 ^ r < n) split (room (2 ^ r) (2 ^ (63 - r)) set (pow_pos r) (subst (λ (n : ℕ). set < n) (sym split) lt) none)
+pub room_for_bit : (set i : ℕ) → i < 64 → set < 2 ^ 64 → has_bit set i ≡ false → set + 2 ^ i < 2 ^ 64
+room_for_bit set i small lt none =
+    let whole : suc (63 - i) + i ≡ 64 = omega arith in
+    let split : (2 * 2 ^ (63 - i)) * 2 ^ i ≡ 2 ^ 64 =
+    sym (ap (λ (n : ℕ). n * 2 ^ i) (pow-succ' 2 (63 - i))) ∙ sym (pow-add 2 (suc (63 - i)) i) ∙ ap (λ (n : ℕ). 2 ^ n) whole in
+    subst (λ (n : ℕ). set + 2 ^ i < n) split (room (2 ^ i) (2 ^ (63 - i)) set (pow_pos i) (subst (λ (n : ℕ). set < n) (sym split) lt) none)

@@ -1,4 +1,4 @@
--- How large a machine can be, for proofs of the crates above. This project's own.
+-- Lemmas of how large a machine can be, for proofs of the crates above.
 use Rattle.std.specs.Prelude.{◌≡◌, ◌≤◌, true}
 use Rattle.std.proofs.Common.{arith}
 use Rattle.std.proofs.lemmas.Bool.Decides.{nat_tests}

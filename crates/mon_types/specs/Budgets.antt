@@ -1,0 +1,21 @@
+-- How many events a core may log and how many answers it may be given, and the cause of an exit by a tick. This
+-- project's own.
+use Rattle.std.specs.Prelude.{ℕ}
+
+-- the events and the answers of one core
+abbrev pub event_budget : ℕ
+event_budget = 16384
+
+abbrev pub answer_budget : ℕ
+answer_budget = 1048576
+
+-- how many of each must be left before a line or a turn
+abbrev pub line_events : ℕ
+line_events = 80
+
+abbrev pub line_answers : ℕ
+line_answers = 600
+
+-- the cause that an exit by a tick saves
+abbrev pub tick_cause : ℕ
+tick_cause = 9223372036854775813
