@@ -9,11 +9,11 @@ use Rattle.mon_types.specs.declared.region.Region.{Region}
 use Rattle.mon_types.specs.declared.enclave.Enclave.{Enclave}
 use Rattle.mon_types.specs.declared.enclave.Loaded.{Loaded}
 use Rattle.mon_types.specs.declared.reply.Reply.TheVariants as replies
-use Rattle.mon_model.specs.Loading.{is_there_for, is_table_1, is_table_0, is_leaf, has_table_1, has_table_0, has_place_for_table, has_place_for_leaf, takes_page, reserves_page}
+use Rattle.mon_model.specs.Loading.{StandInPages, is_there_for, is_table_1, is_table_0, is_leaf, has_table_1, has_table_0, has_place_for_table, has_place_for_leaf, takes_page, reserves_page}
 use Rattle.mon_types.specs.Replies.{done_if}
 use Rattle.mon_model.specs.EnclaveCalls.{is_os_owned, table_fits, leaf_fits, load_table_reply, load_page_reply, reserve_reply}
 use Rattle.mon_enclaves.specs.Entries.{first_frame, frame_of, leads_to_table, leaf_path, table_path, words_fit, table_reply, page_reply, reserved_reply}
-use Rattle.mon_enclaves.specs.FromItems.{StandInPages, table_1_for, table_0_for, leaf_for, table_entry, leaf_entry, below, table_words, leaf_words}
+use Rattle.mon_enclaves.specs.FromItems.{table_1_for, table_0_for, leaf_for, table_entry, leaf_entry, below, table_words, leaf_words}
 use Rattle.mon_types.specs.LimitLaws.{few_pages}
 
 -- something is found exactly where a test passes

@@ -1,14 +1,9 @@
 -- The words that an enclave's loaded items give on an address's path. This project's own.
-use Rattle.std.specs.Prelude.{ℕ, ◌+◌, ◌*◌, ◌<◌, ◌==◌, ◌&&◌, if◌then◌else◌, List, [], ◌∷◌, Option, Some, None}
-use Rattle.std.specs.List.{find, AllByRecursion}
-use Rattle.mon_types.specs.Shape.{Shape, page_total}
+use Rattle.std.specs.Prelude.{ℕ, ◌+◌, ◌*◌, ◌==◌, ◌&&◌, if◌then◌else◌, List, [], ◌∷◌, Option, Some, None}
+use Rattle.std.specs.List.{find}
 use Rattle.mon_types.specs.declared.enclave.Loaded.{Loaded}
 use Rattle.mon_model.specs.Loading.{is_there_for, is_table_1, is_table_0, is_leaf}
 use Rattle.mon_enclaves.specs.Entries.{first_frame}
-
--- the items stand in pages of the machine
-abbrev pub StandInPages : Shape → List Loaded → Type 0
-StandInPages shape items = AllByRecursion (λ item. item.page < page_total shape) items
 
 -- the tables of levels 1 and 0 and the leaf that are there for an address, each if there is one
 abbrev pub table_1_for : ℕ → List Loaded → Option Loaded

@@ -4,12 +4,13 @@ ghost use Rattle.std.specs.Prelude.{◌≡◌, ◌<◌, ℕ, true, List};
 ghost use Rattle.mon_types.specs.Shape.{is_shape, page_total, region_of_page};
 ghost use Rattle.mon_types.specs.declared.enclave.Loaded.{Loaded};
 ghost use Rattle.mon_types.specs.Bits.{has_bit};
-ghost use Rattle.mon_model.specs.Loading.{is_next_page, in_range};
+ghost use Rattle.mon_model.specs.Loading.{StandInPages, is_next_page, in_range};
 ghost use Rattle.mon_model.specs.EnclaveCalls.{table_fits, leaf_fits, is_os_owned, load_table_reply, load_page_reply, reserve_reply};
 ghost use Rattle.mon_enclaves.specs.Entries.{table_reply, page_reply, reserved_reply};
-ghost use Rattle.mon_enclaves.specs.FromItems.{StandInPages, table_words, leaf_words};
+ghost use Rattle.mon_enclaves.specs.FromItems.{table_words, leaf_words};
 
 use crate::entries::{LEAF_PATH, lets_on, path_of_table};
+
 use mon_types::{Config, Enclave, Owner, Region, Reply, Stage};
 
 /// Whether the page lies in a region of the enclave.

@@ -1,6 +1,10 @@
 pub mod Members
+pub mod Bits
+pub mod Deleting
+pub mod TriedSets
 pub mod Tried
 pub mod Changes
 pub mod Whole
+pub mod Carried
 pub mod Pairs
 pub mod Agree

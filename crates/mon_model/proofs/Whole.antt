@@ -1,6 +1,7 @@
 -- The lengths of the tables.
-use Rattle.std.proofs.Common.{ℕ, Bool, true, false, ◌==◌, if◌then◌else◌, List, [], ◌∷◌, ◌∙◌}
-use Rattle.std.proofs.lemmas.List.{length-set}
+use Rattle.std.proofs.Common.{ℕ, Bool, true, false, ◌==◌, if◌then◌else◌, List, [], ◌∷◌, refl, ◌∙◌}
+use Rattle.std.proofs.lemmas.List.{length-set, length-replicate}
+use Rattle.mon_types.specs.Shape.{Shape}
 use Rattle.mon_types.specs.declared.region.Region.{Region}
 use Rattle.mon_types.specs.declared.enclave.Enclave.{Enclave}
 use Rattle.mon_types.specs.declared.enclave.Loaded.{Loaded}
@@ -9,12 +10,12 @@ use Rattle.mon_types.specs.declared.thread.Mode.{Mode}
 use Rattle.mon_types.specs.declared.thread.Mode.TheVariants as modes
 use Rattle.mon_types.specs.declared.call.Call.{Call}
 use Rattle.mon_types.specs.declared.call.Call.TheVariants as calls
-use Rattle.mon_model.specs.State.{State, IsWhole, mode_of, with_region, with_enclave, with_thread, with_flushed, with_mode, with_slot}
 use Rattle.mon_types.specs.Replies.{is_done}
 use Rattle.mon_types.specs.Owns.{os_word}
+use Rattle.mon_model.specs.State.{State, IsWhole, start, mode_of, with_region, with_enclave, with_thread, with_flushed, with_mode, with_slot}
 use Rattle.mon_model.specs.Step.{effect, after, reply_of, without_own_region, with_deleted, regions_of}
 
-region_whole : (s : State) (r : ℕ) (x : Region) → IsWhole s → IsWhole (with_region s r x)
+pub region_whole : (s : State) (r : ℕ) (x : Region) → IsWhole s → IsWhole (with_region s r x)
 region_whole s r x h = record {
   regions = length-set _ _ _ ∙ h.regions;
   enclaves = h.enclaves;
@@ -24,7 +25,7 @@ region_whole s r x h = record {
   loaded = h.loaded;
 }
 
-enclave_whole : (s : State) (e : ℕ) (x : Enclave) → IsWhole s → IsWhole (with_enclave s e x)
+pub enclave_whole : (s : State) (e : ℕ) (x : Enclave) → IsWhole s → IsWhole (with_enclave s e x)
 enclave_whole s e x h = record {
   regions = h.regions;
   enclaves = length-set _ _ _ ∙ h.enclaves;
@@ -34,7 +35,7 @@ enclave_whole s e x h = record {
   loaded = h.loaded;
 }
 
-slot_whole : (s : State) (e : ℕ) (x : Enclave) (xs : List Loaded) → IsWhole s → IsWhole (with_slot s e x xs)
+pub slot_whole : (s : State) (e : ℕ) (x : Enclave) (xs : List Loaded) → IsWhole s → IsWhole (with_slot s e x xs)
 slot_whole s e x xs h = record {
   regions = h.regions;
   enclaves = length-set _ _ _ ∙ h.enclaves;
@@ -44,7 +45,7 @@ slot_whole s e x xs h = record {
   loaded = length-set _ _ _ ∙ h.loaded;
 }
 
-thread_whole : (s : State) (t : ℕ) (x : Thread) → IsWhole s → IsWhole (with_thread s t x)
+pub thread_whole : (s : State) (t : ℕ) (x : Thread) → IsWhole s → IsWhole (with_thread s t x)
 thread_whole s t x h = record {
   regions = h.regions;
   enclaves = h.enclaves;
@@ -54,7 +55,7 @@ thread_whole s t x h = record {
   loaded = h.loaded;
 }
 
-cell_whole : (s : State) (c k : ℕ) → IsWhole s → IsWhole (with_flushed s c k)
+pub cell_whole : (s : State) (c k : ℕ) → IsWhole s → IsWhole (with_flushed s c k)
 cell_whole s c k h = record {
   regions = h.regions;
   enclaves = h.enclaves;
@@ -64,7 +65,7 @@ cell_whole s c k h = record {
   loaded = h.loaded;
 }
 
-mode_whole : (s : State) (c : ℕ) (x : Mode) → IsWhole s → IsWhole (with_mode s c x)
+pub mode_whole : (s : State) (c : ℕ) (x : Mode) → IsWhole s → IsWhole (with_mode s c x)
 mode_whole s c x h = record {
   regions = h.regions;
   enclaves = h.enclaves;
@@ -116,3 +117,13 @@ effect_whole s core (calls.Unknown number args) digest k h = h
 pub stays : (s : State) (core : ℕ) (call : Call) (digest : List ℕ) (k : ℕ) → IsWhole s → IsWhole (after s core call digest k)
 stays s core call digest k h =
     either_whole (is_done (reply_of s core call)) (effect s core call digest k) s (effect_whole s core call digest k h) h
+
+pub starts : (shape : Shape) → IsWhole (start shape)
+starts shape = record {
+  regions = length-replicate _ _;
+  enclaves = refl;
+  threads = refl;
+  flushed = length-replicate _ _;
+  modes = length-replicate _ _;
+  loaded = refl;
+}

@@ -1,5 +1,5 @@
 -- Calls whose arguments name what is there, as those of every call that is not refused early do. This project's own.
-use Rattle.std.specs.Prelude.{◌≡◌, ℕ, ◌<◌, ⊤, Bool, true, false, cond, not, ◌||◌, ◌&&◌, nat_eq, nat_lt, nat_le, Some, None, refl}
+use Rattle.std.specs.Prelude.{◌≡◌, ℕ, ◌<◌, ◌^◌, ⊤, Bool, true, false, cond, not, ◌||◌, ◌&&◌, nat_eq, nat_lt, nat_le, Some, None, refl}
 use Rattle.std.proofs.Common.{arith}
 use Rattle.std.proofs.lemmas.Bool.Decides.{nat_tests}
 use Rattle.mon_types.specs.Shape.{Shape, page_total}
@@ -8,10 +8,11 @@ use Rattle.mon_types.specs.declared.call.Call.{Call}
 use Rattle.mon_types.specs.declared.call.Call.TheVariants as calls
 use Rattle.mon_types.specs.declared.reply.Reply.TheVariants as replies
 use Rattle.mon_types.specs.Owns.{os_word}
-use Rattle.mon_model.specs.Early.{is_unsupported, is_wrong_mode, is_bad_value, is_no_slot, is_fixed_region, are_bad_perms, is_bad_level, early}
+use Rattle.mon_model.specs.Early.{is_unsupported, is_wrong_mode, is_bad_value, is_no_slot, is_fixed_region, is_bad_address, are_bad_perms, is_bad_level, early}
 
 -- each region, page, enclave slot, thread slot and mailbox that the call names is one of the machine, an
--- assign may name the OS instead of a slot, and levels and permissions are small
+-- assign may name the OS instead of a slot, addresses of tables and pages are below 2 ^ 38, and levels and
+-- permissions are small
 abbrev pub IsInRange : Shape → Call → Type 0
 IsInRange shape (calls.Block r) = r < shape.regions
 IsInRange shape (calls.Free r) = r < shape.regions
@@ -19,8 +20,9 @@ IsInRange shape (calls.Assign r to) = (r < shape.regions) × ((to ≡ os_word �
 IsInRange shape calls.Flush = ⊤
 IsInRange shape (calls.RegionInfo r) = r < shape.regions
 IsInRange shape (calls.Create e base size) = e < 8
-IsInRange shape (calls.LoadTable e va level page) = (e < 8) × (level < 3) × (page < page_total shape)
-IsInRange shape (calls.LoadPage e va page src perms) = (e < 8) × (page < page_total shape) × (src < page_total shape) × (perms < 8)
+IsInRange shape (calls.LoadTable e va level page) = (e < 8) × (level < 3) × (page < page_total shape) × (va < 2 ^ 38)
+IsInRange shape (calls.LoadPage e va page src perms) =
+    (e < 8) × (page < page_total shape) × (src < page_total shape) × (perms < 8) × (va < 2 ^ 38)
 IsInRange shape (calls.LoadThread e t entry sp) = (e < 8) × (t < 16)
 IsInRange shape (calls.Init e) = e < 8
 IsInRange shape (calls.DeleteThread e t) = (e < 8) × (t < 16)
@@ -35,7 +37,7 @@ IsInRange shape (calls.Read m) = m < 2
 IsInRange shape (calls.EnclaveInfo e) = e < 8
 IsInRange shape (calls.SetSatp v) = ⊤
 IsInRange shape (calls.AcceptRegion r) = r < shape.regions
-IsInRange shape (calls.Reserve e va page perms) = (e < 8) × (page < page_total shape) × (perms < 8)
+IsInRange shape (calls.Reserve e va page perms) = (e < 8) × (page < page_total shape) × (perms < 8) × (va < 2 ^ 38)
 IsInRange shape (calls.Unknown number args) = ⊤
 
 -- no refusal: not of the values
@@ -70,6 +72,9 @@ level va n h =
 perms : (n : ℕ) → are_bad_perms n ≡ false → n < 8
 perms n h = grind (arith, nat_tests)
 
+address : (va : ℕ) → is_bad_address va ≡ false → va < 2 ^ 38
+address va h = below (2 ^ 38) va (right _ _ h)
+
 pub in_range : (shape : Shape) (call : Call) → is_bad_value shape call ≡ false → IsInRange shape call
 in_range shape (calls.Block r) h = fixed shape r h
 in_range shape (calls.Free r) h = fixed shape r h
@@ -77,8 +82,8 @@ in_range shape (calls.Assign r to) h = (fixed shape r (left _ _ h), assignee to 
 in_range shape calls.Flush h = tt
 in_range shape (calls.RegionInfo r) h = below shape.regions r h
 in_range shape (calls.Create e base size) h = below 8 e (left _ _ h)
-in_range shape (calls.LoadTable e va n page) h = (below 8 e (left _ _ (left _ _ (left _ _ h))), level va n (right _ _ h), below (page_total shape) page (right _ _ (left _ _ h)))
-in_range shape (calls.LoadPage e va page src n) h = (below 8 e (left _ _ (left _ _ (left _ _ (left _ _ h)))), below (page_total shape) page (right _ _ (left _ _ (left _ _ h))), below (page_total shape) src (right _ _ (left _ _ h)), perms n (right _ _ h))
+in_range shape (calls.LoadTable e va n page) h = (below 8 e (left _ _ (left _ _ (left _ _ h))), level va n (right _ _ h), below (page_total shape) page (right _ _ (left _ _ h)), address va (right _ _ (left _ _ (left _ _ h))))
+in_range shape (calls.LoadPage e va page src n) h = (below 8 e (left _ _ (left _ _ (left _ _ (left _ _ h)))), below (page_total shape) page (right _ _ (left _ _ (left _ _ h))), below (page_total shape) src (right _ _ (left _ _ h)), perms n (right _ _ h), address va (right _ _ (left _ _ (left _ _ (left _ _ h)))))
 in_range shape (calls.LoadThread e t entry sp) h = (below 8 e (left _ _ (left _ _ h)), below 16 t (right _ _ (left _ _ h)))
 in_range shape (calls.Init e) h = below 8 e h
 in_range shape (calls.DeleteThread e t) h = (below 8 e (left _ _ h), below 16 t (right _ _ h))
@@ -93,7 +98,7 @@ in_range shape (calls.Read m) h = below 2 m h
 in_range shape (calls.EnclaveInfo e) h = below 8 e h
 in_range shape (calls.SetSatp v) h = tt
 in_range shape (calls.AcceptRegion r) h = fixed shape r h
-in_range shape (calls.Reserve e va page n) h = (below 8 e (left _ _ (left _ _ (left _ _ h))), below (page_total shape) page (right _ _ (left _ _ h)), perms n (right _ _ h))
+in_range shape (calls.Reserve e va page n) h = (below 8 e (left _ _ (left _ _ (left _ _ h))), below (page_total shape) page (right _ _ (left _ _ h)), perms n (right _ _ h), address va (right _ _ (left _ _ (left _ _ h))))
 in_range shape (calls.Unknown number args) h = tt
 
 pub not_refused : (shape : Shape) (mode : Mode) (call : Call) → early shape mode call ≡ None → IsInRange shape call

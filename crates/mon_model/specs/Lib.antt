@@ -5,6 +5,7 @@ pub mod Measure
 pub mod MeasureWords
 pub mod Loading
 pub mod EnclaveCalls
+pub mod Deleted
 pub mod ThreadCalls
 pub mod MailCalls
 pub mod Step

@@ -1,8 +1,8 @@
 -- What is loaded into an enclave, and which page tables and leaves that makes. This project's own; the
 -- shape of the tables is Sv39 of the RISC-V Privileged ISA.
-use Rattle.std.specs.Prelude.{ℕ, ◌+◌, ◌/◌, ◌^◌, Bool, true, false, ◌==◌, ◌&&◌, not, nat_lt, nat_le, if◌then◌else◌, List, is_some}
-use Rattle.std.specs.List.{list_any}
-use Rattle.mon_types.specs.Shape.{Shape, region_of_page}
+use Rattle.std.specs.Prelude.{ℕ, ◌<◌, ◌+◌, ◌/◌, ◌^◌, Bool, true, false, ◌==◌, ◌&&◌, not, nat_lt, nat_le, if◌then◌else◌, List, is_some}
+use Rattle.std.specs.List.{list_any, AllByRecursion}
+use Rattle.mon_types.specs.Shape.{Shape, page_total, region_of_page}
 use Rattle.mon_types.specs.declared.enclave.LoadedKind.{LoadedKind}
 use Rattle.mon_types.specs.declared.enclave.LoadedKind.TheVariants as kinds
 use Rattle.mon_types.specs.declared.enclave.Loaded.{Loaded}
@@ -54,6 +54,10 @@ has_table_0 va items = list_any (λ item. is_table_0 item.kind && is_there_for v
 
 abbrev pub has_leaf : ℕ → List Loaded → Bool
 has_leaf va items = list_any (λ item. is_leaf item.kind && is_there_for va item) items
+
+-- the items stand in pages of the machine
+abbrev pub StandInPages : Shape → List Loaded → Type 0
+StandInPages shape items = AllByRecursion (λ item. item.page < page_total shape) items
 
 -- ---- what the enclave's record decides
 

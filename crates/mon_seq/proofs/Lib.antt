@@ -1,12 +1,2 @@
-pub mod TriedSets
-pub mod Deleting
-pub mod Sound
 pub mod Room
-pub mod Dated
-pub mod Bits
-pub mod OneChanged
-pub mod SetFacts
-pub mod ThreadFacts
-pub mod SlotFacts
-pub mod FactsKept
 pub mod Measured

@@ -6,8 +6,8 @@ use Rattle.mon_types.specs.declared.enclave.Enclave.{Enclave}
 use Rattle.mon_types.specs.declared.enclave.Loaded.{Loaded}
 use Rattle.mon_types.specs.Replies.{is_done}
 use Rattle.mon_model.specs.EnclaveCalls.{load_table_reply, load_page_reply, reserve_reply}
-use Rattle.mon_seq.specs.Tables.{IsSlot}
-use Rattle.mon_seq.proofs.Sound.{table_takes, page_takes, reserve_takes}
+use Rattle.mon_facts.specs.Tables.{IsSlot}
+use Rattle.mon_facts.proofs.TablesKept.{table_takes, page_takes, reserve_takes}
 
 pub table_room : (shape : Shape) (enclave : Enclave) (items : List Loaded) (va level page : ℕ) → IsSlot shape enclave items → page < 1024 → is_done (load_table_reply shape enclave items va level page) ≡ true → length items < 1024
 table_room shape enclave items va level page slot few h = omega (arith, slot.count, table_takes shape enclave items va level page h)

@@ -4,7 +4,7 @@ ghost use Rattle.std.specs.Prelude.{◌≡◌, ◌<◌, [], replicate, IfOk};
 ghost use Rattle.mon_model.specs.State.{start};
 ghost use Rattle.mon_types.specs.Replies.{is_done};
 ghost use Rattle.mon_types.specs.Modes.{own_slot, own_thread};
-ghost use Rattle.mon_seq.specs.Tables.{NamesSlots, AreTables};
+ghost use Rattle.mon_facts.specs.Tables.{NamesSlots, AreTables};
 
 use crate::loads::Loads;
 use mon_types::{Config, Enclave, Mode, Owner, Region, Reply, Thread};

@@ -7,8 +7,8 @@ ghost use Rattle.mon_model.specs.State.{enclave_at, with_enclave, with_slot};
 ghost use Rattle.mon_types.specs.Replies.{done, is_done};
 ghost use Rattle.mon_model.specs.EnclaveCalls.{create_reply, created, init_reply, initialized, delete_reply, deleted, enclave_info_reply};
 ghost use Rattle.mon_model.specs.Step.{with_deleted, regions_of};
-ghost use Rattle.mon_seq.specs.Deleted.{deleted_in};
-ghost use Rattle.mon_seq.specs.Tables.{AreTables};
+ghost use Rattle.mon_model.specs.Deleted.{deleted_in};
+ghost use Rattle.mon_facts.specs.Tables.{AreTables};
 
 use crate::board::{Board, is_ok};
 use mon_enclaves::{
@@ -45,7 +45,7 @@ fn delete_member(call: &Call, ticket: u32, set: u64, r: usize, regions: &mut [Re
 }
 
 /// Blocks each region of the set.
-#[tactic(auto, using(crate::proofs::Deleting::deleting))]
+#[tactic(auto, using(mon_model::proofs::Deleting::deleting))]
 fn delete_regions(call: &Call, ticket: u32, set: u64, regions: &mut [Region])
     requires { length regions.old ≤ 64 }
     ensures { regions.new ≡ deleted_in regions.old (members set (length regions.old)) ticket }
@@ -89,7 +89,7 @@ impl Board {
     }
 
     /// delete of the enclave in slot e.
-    #[tactic(auto, using(mon_types::specs::LimitLaws::few_regions, crate::proofs::Deleting::with_deleted_in))]
+    #[tactic(auto, using(mon_types::specs::LimitLaws::few_regions, mon_model::proofs::Deleting::with_deleted_in))]
     pub fn delete(&mut self, call: &Call, ticket: u32, e: u64) -> Reply
         requires tables { AreTables self.old }
         requires e { e < 8 }

@@ -7,7 +7,7 @@ ghost use Rattle.mon_types.specs.Replies.{is_done};
 ghost use Rattle.mon_model.specs.Loading.{table_kind};
 ghost use Rattle.mon_model.specs.EnclaveCalls.{load_table_reply, load_page_reply, reserve_reply, with_table, with_page, with_reserved};
 ghost use Rattle.mon_model.specs.Step.{with_item};
-ghost use Rattle.mon_seq.specs.Tables.{AreTables, IsSlot};
+ghost use Rattle.mon_facts.specs.Tables.{AreTables, IsSlot};
 
 use crate::board::{Board, is_ok};
 use crate::loads::Loads;

@@ -5,7 +5,7 @@ ghost use Rattle.mon_model.specs.State.{enclave_at, with_enclave};
 ghost use Rattle.mon_types.specs.Replies.{done, is_done};
 ghost use Rattle.mon_model.specs.MailCalls.{with_mailbox, send_reply, sent, read_reply};
 ghost use Rattle.mon_mail.specs.Named.{named_mailbox, named_words, IsSend};
-ghost use Rattle.mon_seq.specs.Tables.{AreTables};
+ghost use Rattle.mon_facts.specs.Tables.{AreTables};
 
 use crate::board::{Board, is_ok};
 use mon_mail::{after_accept, after_read, after_send, decide_accept, decide_read, decide_send};

@@ -6,8 +6,8 @@ ghost use Rattle.mon_types.specs.Replies.{is_concurrent};
 ghost use Rattle.mon_model.specs.Step.{reply_of};
 ghost use Rattle.mon_model.specs.Tries.{tries, tried_set};
 ghost use Rattle.mon_seq.specs.Sequential.{then_call, then_skip};
-ghost use Rattle.mon_seq.specs.Tables.{AreTables, AreDated};
-ghost use Rattle.mon_seq.specs.Facts.{SetsAreOwned, OwnersAreThere, BlockedAreOlder, EmptyAreBlank, InitializedAreRooted, ThreadsAreCounted, InsideAreRunning, RunningAreInside, InsideAreAlone, RunningAreInitialized, LoadedArePlaced, FactsHold};
+ghost use Rattle.mon_facts.specs.Tables.{AreTables, AreDated};
+ghost use Rattle.mon_facts.specs.Facts.{SetsAreOwned, OwnersAreThere, BlockedAreOlder, EmptyAreBlank, InitializedAreRooted, ThreadsAreCounted, InsideAreRunning, RunningAreInside, InsideAreAlone, RunningAreInitialized, LoadedArePlaced, FactsHold};
 
 use crate::board::Board;
 use crate::tables::Tables;
@@ -25,8 +25,8 @@ pub struct Monitor {
 
 impl Model for Monitor {
     ghost use Rattle.mon_seq.specs.Sequential.{Sequential};
-    ghost use Rattle.mon_seq.specs.Tables.{AreTables, AreDated};
-    ghost use Rattle.mon_seq.specs.Facts.{FactsHold};
+    ghost use Rattle.mon_facts.specs.Tables.{AreTables, AreDated};
+    ghost use Rattle.mon_facts.specs.Facts.{FactsHold};
 
     ghost Value = { Sequential };
 

@@ -7,7 +7,7 @@ ghost use Rattle.mon_types.specs.Replies.{done, is_done};
 ghost use Rattle.mon_model.specs.RegionCalls.{block_reply, blocked, loses_region, free_reply, assign_reply, assigned, with_assigned, region_info_reply, accept_region_reply, gains_region};
 ghost use Rattle.mon_types.specs.Modes.{own_slot};
 ghost use Rattle.mon_model.specs.Step.{assignee, without_own_region, assign_effect};
-ghost use Rattle.mon_seq.specs.Tables.{NamesSlots, AreTables};
+ghost use Rattle.mon_facts.specs.Tables.{NamesSlots, AreTables};
 
 use crate::board::{Board, is_ok, own_slot_of};
 use mon_regions::{

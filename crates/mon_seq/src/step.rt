@@ -4,7 +4,7 @@ ghost use Rattle.std.specs.Prelude.{◌≡◌, ◌<◌, if◌then◌else◌};
 ghost use Rattle.mon_model.specs.State.{mode_of};
 ghost use Rattle.mon_types.specs.Replies.{is_done};
 ghost use Rattle.mon_model.specs.Step.{held_reply, effect, reply_of, after};
-ghost use Rattle.mon_seq.specs.Tables.{NamesSlots, AreTables};
+ghost use Rattle.mon_facts.specs.Tables.{NamesSlots, AreTables};
 ghost use Rattle.mon_model.specs.InRange.{IsInRange};
 
 use crate::board::{Board, own_slot_of, own_thread_of};

@@ -5,7 +5,7 @@ ghost use Rattle.mon_types.specs.Threads.{empty_thread};
 ghost use Rattle.mon_model.specs.State.{enclave_at, thread_at, with_enclave, with_thread, with_mode};
 ghost use Rattle.mon_types.specs.Replies.{done, is_done};
 ghost use Rattle.mon_model.specs.ThreadCalls.{load_thread_reply, ready, with_thread_loaded, delete_thread_reply, without_thread, enter_reply, running, left, left_saving, restore_reply, restored};
-ghost use Rattle.mon_seq.specs.Tables.{AreTables};
+ghost use Rattle.mon_facts.specs.Tables.{AreTables};
 
 use crate::board::{Board, is_ok};
 use mon_threads::{

@@ -6,7 +6,7 @@ ghost use Rattle.mon_types.specs.Bits.{members};
 ghost use Rattle.mon_model.specs.Early.{early};
 ghost use Rattle.mon_types.specs.Modes.{own_slot, own_thread};
 ghost use Rattle.mon_model.specs.Tries.{free_tries, assign_tries, own_enclave, send_tries, tried_set};
-ghost use Rattle.mon_seq.specs.Tables.{NamesSlots};
+ghost use Rattle.mon_facts.specs.Tables.{NamesSlots};
 ghost use Rattle.mon_seq.specs.Tried.{AreTries, AreHeldTries};
 
 use lock_plan::refuse_early;

@@ -8,7 +8,7 @@ use Rattle.mon_types.specs.Shape.{Shape}
 use Rattle.mon_types.specs.declared.image.Start.{Start}
 use Rattle.mon_types.specs.declared.script.Line.{Line}
 use Rattle.mon_model.specs.State.{State, start}
-use Rattle.mon_seq.specs.Tables.{AreTables}
+use Rattle.mon_facts.specs.Tables.{AreTables}
 use Rattle.hist.specs.declared.event.Entry.{Entry}
 use Rattle.hist.specs.declared.finished.Finished.{Finished}
 use Rattle.hist.specs.Logged.{Logged}
@@ -77,7 +77,7 @@ of_core merge shape first script c is h single sound = record {
   run = ap finished_by is;
   legal = legal_log c h;
   tables = last_tables c h;
-  cores = record { logs = sym single; flushed = sound.flushed; modes = sound.modes };
+  cores = record { logs = sym single; flushed = sound.whole.flushed; modes = sound.whole.modes };
   printable = subst (AllByRecursion IsPrintable) (sym (history_of_one (log_of c) h.tickets)) h.printable;
   merge = merge c.state.shape (log_of c ∷ []) (omega arith) (legal_log c h);
 }

@@ -1,7 +1,7 @@
 //! The machine with one core.
 
 ghost use Rattle.std.specs.Prelude.{◌≡◌, ◌<◌, [], vec_len, vec_capacity, IfOk};
-ghost use Rattle.mon_seq.specs.Tables.{AreTables};
+ghost use Rattle.mon_facts.specs.Tables.{AreTables};
 ghost use Rattle.solo.specs.Solo.{core_start, finished_by};
 
 use crate::answers::Answers;

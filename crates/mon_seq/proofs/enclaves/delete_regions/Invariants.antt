@@ -1,6 +1,6 @@
 use Rattle.std.proofs.Common.{◌≡◌}
 use Rattle.mon_types.specs.Bits.{members}
-use Rattle.mon_seq.specs.Deleted.{deleted_in}
+use Rattle.mon_model.specs.Deleted.{deleted_in}
 use Rattle.mon_seq.proofs.enclaves.delete_regions.Given as goal
 
 -- the members of the set so far are deleted

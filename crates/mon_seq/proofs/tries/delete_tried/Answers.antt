@@ -1,4 +1,4 @@
-use Rattle.mon_seq.proofs.TriedSets.{slot_and_regions}
+use Rattle.mon_model.proofs.TriedSets.{slot_and_regions}
 use Rattle.mon_seq.proofs.tries.delete_tried.Goals as goal
 
 pub returns : goal.returns

@@ -1,4 +1,4 @@
-use Rattle.mon_seq.proofs.TriedSets.{region_and_cells}
+use Rattle.mon_model.proofs.TriedSets.{region_and_cells}
 use Rattle.mon_seq.proofs.tries.free_tried.Goals as goal
 
 pub returns-in-Blocked : goal.returns-in-Blocked

@@ -1,5 +1,5 @@
 use Rattle.std.proofs.Common.{arith}
-use Rattle.mon_seq.proofs.TriedSets.{two_slots}
+use Rattle.mon_model.proofs.TriedSets.{two_slots}
 use Rattle.mon_seq.proofs.tries.send_bits.Goals as goal
 
 pub overflow_add-result : goal.overflow_add-result

@@ -1,10 +1,10 @@
 use Rattle.std.proofs.Common.{◌+◌, ◌<◌, sym, subst}
 use Rattle.mon_model.specs.State.{State}
-use Rattle.mon_seq.specs.Facts.{FactsHold}
+use Rattle.mon_facts.specs.Facts.{FactsHold}
 use Rattle.mon_seq.specs.Sequential.{Sequential}
-use Rattle.mon_seq.specs.Tables.{AreDated}
-use Rattle.mon_seq.proofs.Dated.{after_dated}
-use Rattle.mon_seq.proofs.FactsKept.{after_kept}
+use Rattle.mon_facts.specs.Tables.{AreDated}
+use Rattle.mon_facts.proofs.Dated.{after_dated}
+use Rattle.mon_facts.proofs.FactsKept.{after_kept}
 use Rattle.mon_seq.proofs.monitor.Monitor.call.Goals as goal
 
 pub invariant_of-self : goal.invariant_of-self

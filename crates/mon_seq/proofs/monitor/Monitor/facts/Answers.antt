@@ -1,5 +1,5 @@
 use Rattle.std.proofs.Common.{subst}
-use Rattle.mon_seq.specs.Facts.{FactsHold}
+use Rattle.mon_facts.specs.Facts.{FactsHold}
 use Rattle.mon_seq.specs.Sequential.{Sequential}
 use Rattle.mon_seq.proofs.monitor.Monitor.facts.Goals as goal
 

@@ -1,8 +1,8 @@
 use Rattle.std.proofs.Common.{sym, subst}
-use Rattle.mon_seq.specs.Facts.{FactsHold}
-use Rattle.mon_seq.specs.Tables.{AreDated}
-use Rattle.mon_seq.proofs.Dated.{start_dated}
-use Rattle.mon_seq.proofs.FactsKept.{start_kept}
+use Rattle.mon_facts.specs.Facts.{FactsHold}
+use Rattle.mon_facts.specs.Tables.{AreDated}
+use Rattle.mon_facts.proofs.Dated.{start_dated}
+use Rattle.mon_facts.proofs.FactsKept.{start_kept}
 use Rattle.mon_seq.proofs.monitor.Monitor.new.Goals as goal
 
 pub invariant_of-result : goal.invariant_of-result

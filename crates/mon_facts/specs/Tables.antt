@@ -8,10 +8,9 @@ use Rattle.mon_types.specs.declared.enclave.Enclave.{Enclave}
 use Rattle.mon_types.specs.declared.enclave.Loaded.{Loaded}
 use Rattle.mon_types.specs.declared.thread.Mode.{Mode}
 use Rattle.mon_types.specs.declared.thread.Mode.TheVariants as modes
-use Rattle.mon_model.specs.State.{State, enclave_at, loaded_at}
+use Rattle.mon_model.specs.State.{State, IsWhole, enclave_at, loaded_at}
 use Rattle.mon_model.specs.RegionCalls.{is_initialized}
-use Rattle.mon_model.specs.Loading.{has_root}
-use Rattle.mon_enclaves.specs.FromItems.{StandInPages}
+use Rattle.mon_model.specs.Loading.{StandInPages, has_root}
 
 -- a core that is inside an enclave is so by an enclave slot below 8 and a thread slot below 16
 abbrev pub NamesSlots : Mode → Type 0
@@ -31,16 +30,11 @@ pub record IsSlot (shape : Shape) (enclave : Enclave) (items : List Loaded) : Ty
   pub pages : StandInPages shape items
   pub root : IsRooted enclave
 
--- the machine is within the limits, each table is as long as its shape says, each mode names slots that
+-- the machine is within the limits, the tables are as long as its shape says, each mode names slots that
 -- are there, and the items of each slot are as said above
 pub record AreTables (s : State) : Type 0 where
   pub machine : is_shape s.shape ≡ true
-  pub regions : length s.regions ≡ s.shape.regions
-  pub enclaves : length s.enclaves ≡ 8
-  pub threads : length s.threads ≡ 16
-  pub flushed : length s.flushed ≡ s.shape.cores
-  pub modes : length s.modes ≡ s.shape.cores
-  pub loaded : length s.loaded ≡ 8
+  pub whole : IsWhole s
   pub slots : All NamesSlots s.modes
   pub items : (e : ℕ) → IsSlot s.shape (enclave_at s e) (loaded_at s e)
 

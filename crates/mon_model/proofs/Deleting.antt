@@ -9,7 +9,7 @@ use Rattle.mon_model.specs.State.{State, region_at, enclave_at, with_region, wit
 use Rattle.mon_types.specs.Bits.{member, members}
 use Rattle.mon_model.specs.EnclaveCalls.{deleted}
 use Rattle.mon_model.specs.Step.{with_deleted, regions_of}
-use Rattle.mon_seq.specs.Deleted.{deleted_in}
+use Rattle.mon_model.specs.Deleted.{deleted_in}
 
 pub deleted_in-append : (table : List Region) (rs qs : List ℕ) (k : ℕ) → deleted_in table (rs ++ qs) k ≡ deleted_in (deleted_in table rs k) qs k
 deleted_in-append table [] qs k = refl

@@ -13,8 +13,8 @@ use Rattle.mon_types.specs.declared.thread.Mode.{Mode}
 use Rattle.mon_types.specs.declared.thread.Mode.TheVariants as modes
 use Rattle.mon_model.specs.RegionCalls.{is_initialized}
 use Rattle.mon_types.specs.Modes.{own_slot, own_thread}
-use Rattle.mon_seq.specs.Facts.{is_thread_of}
-use Rattle.mon_seq.proofs.OneChanged.{same-is, at_set}
+use Rattle.mon_facts.specs.Facts.{is_thread_of}
+use Rattle.mon_facts.proofs.OneChanged.{same-is, at_set}
 
 -- ---- thread counts
 

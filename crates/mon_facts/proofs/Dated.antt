@@ -22,7 +22,7 @@ use Rattle.mon_types.specs.Owns.{os_word}
 use Rattle.mon_model.specs.RegionCalls.{blocked, assigned}
 use Rattle.mon_model.specs.EnclaveCalls.{deleted}
 use Rattle.mon_model.specs.Step.{effect, after, reply_of, without_own_region, with_deleted, regions_of}
-use Rattle.mon_seq.specs.Tables.{IsDated, AreDated}
+use Rattle.mon_facts.specs.Tables.{IsDated, AreDated}
 
 -- what all have, one at any place has, if what stands past the end has it
 at_any : (P : Region → Type 0) (xs : List Region) (r : ℕ) → P regions.Free → All P xs → P (get_or xs r regions.Free)

@@ -11,11 +11,11 @@ use Rattle.mon_types.specs.declared.region.Region.TheVariants as regions
 use Rattle.mon_types.specs.declared.enclave.Enclave.{Enclave}
 use Rattle.mon_types.specs.Bits.{has_bit, with_bit, without_bit, member, members}
 use Rattle.mon_model.specs.EnclaveCalls.{deleted}
-use Rattle.mon_seq.specs.Deleted.{deleted_in}
-use Rattle.mon_seq.specs.Facts.{is_enclave, is_owned_by}
-use Rattle.mon_seq.proofs.Bits.{none-has, with-same, with-other, without-same, without-other}
-use Rattle.mon_seq.proofs.Deleting.{deleted_in-append}
-use Rattle.mon_seq.proofs.OneChanged.{same-is, other-is, at_set}
+use Rattle.mon_model.specs.Deleted.{deleted_in}
+use Rattle.mon_facts.specs.Facts.{is_enclave, is_owned_by}
+use Rattle.mon_model.proofs.Bits.{none-has, with-same, with-other, without-same, without-other}
+use Rattle.mon_model.proofs.Deleting.{deleted_in-append}
+use Rattle.mon_facts.proofs.OneChanged.{same-is, other-is, at_set}
 
 -- `SetsAreOwned` of the tables
 abbrev pub AreSets : List Enclave → List Region → Type 0

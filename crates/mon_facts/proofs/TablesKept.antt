@@ -1,6 +1,6 @@
 -- What always holds of the tables still holds after each call.
 use Rattle.std.proofs.Common.{◌≡◌, ℕ, ◌+◌, ◌<◌, ◌≤◌, Bool, true, false, cond, ◌&&◌, nat_le, nat_eq, List, [], ◌∷◌, ◌++◌, length, get_or, slice_set, replicate, inl, inr, refl, sym, ap, ◌∙◌, arith, length-append}
-use Rattle.std.proofs.lemmas.List.{length-set, length-replicate, get_or_past, get_or-replicate, get_or-set_same, get_or-set_other}
+use Rattle.std.proofs.lemmas.List.{length-replicate, get_or_past, get_or-replicate, get_or-set_same, get_or-set_other}
 use Rattle.std.proofs.lemmas.List.Elements.{All-set}
 use Rattle.std.proofs.lemmas.Bool.{eqb-false}
 use Rattle.std.proofs.lemmas.Bool.Decides.{eqb_tells, leb_tells, nat_tests}
@@ -24,13 +24,14 @@ use Rattle.mon_model.specs.State.{State, start, enclave_at, loaded_at, mode_of, 
 use Rattle.mon_types.specs.Replies.{is_done, done_if}
 use Rattle.mon_types.specs.Owns.{os_word}
 use Rattle.mon_model.specs.RegionCalls.{is_loading, is_initialized, gains_region, with_assigned}
-use Rattle.mon_model.specs.Loading.{has_root, is_next_page, takes_page, has_place_for_leaf}
+use Rattle.mon_model.specs.Loading.{StandInPages, has_root, is_next_page, takes_page, has_place_for_leaf}
 use Rattle.mon_model.specs.EnclaveCalls.{init_reply, is_os_owned, leaf_fits, load_table_reply, load_page_reply, reserve_reply}
 use Rattle.mon_types.specs.Modes.{own_slot}
-use Rattle.mon_model.specs.Step.{held_reply, effect, with_item, with_deleted, regions_of, without_own_region}
-use Rattle.mon_enclaves.specs.FromItems.{StandInPages}
-use Rattle.mon_seq.specs.Tables.{NamesSlots, IsRooted, IsSlot, AreTables}
-use Rattle.mon_model.specs.InRange.{IsInRange}
+use Rattle.mon_model.specs.Step.{held_reply, effect, reply_of, after, with_item, with_deleted, regions_of, without_own_region}
+use Rattle.mon_facts.specs.Tables.{NamesSlots, IsRooted, IsSlot, AreTables}
+use Rattle.mon_model.specs.InRange.{IsInRange, in_range}
+use Rattle.mon_model.proofs.Carried.{carried}
+use Rattle.mon_model.proofs.Whole.{region_whole, enclave_whole, slot_whole, thread_whole, cell_whole, mode_whole, starts}
 
 -- ---- which page is taken
 
@@ -46,7 +47,7 @@ pub second : (a b : Bool) → (a && b) ≡ true → b ≡ true
 second true b h = h
 second false b h = cc
 
-next_page : (enclave : Enclave) (page : ℕ) → is_next_page enclave page ≡ true → enclave.next_page ≤ page
+pub next_page : (enclave : Enclave) (page : ℕ) → is_next_page enclave page ≡ true → enclave.next_page ≤ page
 next_page enclave page h =
     let le : nat_le enclave.next_page page ≡ true = second (is_loading enclave.stage) (nat_le enclave.next_page page) h in
     grind (arith, nat_tests)
@@ -58,12 +59,19 @@ loading enclave page h = first (is_loading enclave.stage) (nat_le enclave.next_p
 pub table_taken : (shape : Shape) (enclave : Enclave) (items : List Loaded) (va level page : ℕ) → is_done (load_table_reply shape enclave items va level page) ≡ true → takes_page shape enclave page ≡ true
 table_taken shape enclave items va level page h = first _ _ (first _ _ (done-if _ h))
 
-pub page_taken : (shape : Shape) (enclave : Enclave) (items : List Loaded) (source : Region) (va page : ℕ) → is_done (load_page_reply shape enclave items source va page) ≡ true → takes_page shape enclave page ≡ true
-page_taken shape enclave items source va page h = first _ _ (taken (takes_page shape enclave page && leaf_fits enclave va) (cond (is_os_owned source) (done_if (has_place_for_leaf items va)) replies.AccessDenied) h)
+-- what load_page asks of the enclave's record
+page_asks : (shape : Shape) (enclave : Enclave) (items : List Loaded) (source : Region) (va page : ℕ) → is_done (load_page_reply shape enclave items source va page) ≡ true → (takes_page shape enclave page && leaf_fits enclave va) ≡ true
+page_asks shape enclave items source va page h = asked (takes_page shape enclave page && leaf_fits enclave va) (cond (is_os_owned source) (done_if (has_place_for_leaf items va)) replies.AccessDenied) h
   where
-    taken : (b : Bool) (x : Reply) → is_done (cond b x replies.InvalidState) ≡ true → b ≡ true
-    taken true x h = refl
-    taken false x h = h
+    asked : (b : Bool) (x : Reply) → is_done (cond b x replies.InvalidState) ≡ true → b ≡ true
+    asked true x h = refl
+    asked false x h = h
+
+pub page_taken : (shape : Shape) (enclave : Enclave) (items : List Loaded) (source : Region) (va page : ℕ) → is_done (load_page_reply shape enclave items source va page) ≡ true → takes_page shape enclave page ≡ true
+page_taken shape enclave items source va page h = first _ _ (page_asks shape enclave items source va page h)
+
+pub page_fits : (shape : Shape) (enclave : Enclave) (items : List Loaded) (source : Region) (va page : ℕ) → is_done (load_page_reply shape enclave items source va page) ≡ true → leaf_fits enclave va ≡ true
+page_fits shape enclave items source va page h = second (takes_page shape enclave page) _ (page_asks shape enclave items source va page h)
 
 table_next : (shape : Shape) (enclave : Enclave) (items : List Loaded) (va level page : ℕ) → is_done (load_table_reply shape enclave items va level page) ≡ true → is_next_page enclave page ≡ true
 table_next shape enclave items va level page h = first _ _ (table_taken shape enclave items va level page h)
@@ -116,29 +124,14 @@ slots-set_enclave shape es ls e x p h all j =
     ]
 
 region_sound : (s : State) (r : ℕ) (x : Region) → AreTables s → AreTables (with_region s r x)
-region_sound s r x h = record {
-  machine = h.machine;
-  regions = length-set _ _ _ ∙ h.regions;
-  enclaves = h.enclaves;
-  threads = h.threads;
-  flushed = h.flushed;
-  modes = h.modes;
-  loaded = h.loaded;
-  slots = h.slots;
-  items = h.items;
-}
+region_sound s r x h = record { machine = h.machine; whole = region_whole s r x h.whole; slots = h.slots; items = h.items }
 
 slot_sound : (s : State) (e : ℕ) (x : Enclave) (xs : List Loaded) → e < 8 → IsSlot s.shape x xs → AreTables s → AreTables (with_slot s e x xs)
 slot_sound s e x xs p is h = record {
   machine = h.machine;
-  regions = h.regions;
-  enclaves = length-set _ _ _ ∙ h.enclaves;
-  threads = h.threads;
-  flushed = h.flushed;
-  modes = h.modes;
-  loaded = length-set _ _ _ ∙ h.loaded;
+  whole = slot_whole s e x xs h.whole;
   slots = h.slots;
-  items = slots-set s.shape s.enclaves s.loaded e x xs (omega (arith, h.enclaves)) (omega (arith, h.loaded)) is h.items;
+  items = slots-set s.shape s.enclaves s.loaded e x xs (omega (arith, h.whole.enclaves)) (omega (arith, h.whole.loaded)) is h.items;
 }
 
 -- a slot with the same next page
@@ -148,51 +141,21 @@ enclave_sound s e x p same root h =
     let is : IsSlot s.shape x (loaded_at s e) = record { count = rw same was.count; next = rw same was.next; pages = was.pages; root = root was.root } in
     record {
       machine = h.machine;
-      regions = h.regions;
-      enclaves = length-set _ _ _ ∙ h.enclaves;
-      threads = h.threads;
-      flushed = h.flushed;
-      modes = h.modes;
-      loaded = h.loaded;
+      whole = enclave_whole s e x h.whole;
       slots = h.slots;
-      items = slots-set_enclave s.shape s.enclaves s.loaded e x (omega (arith, h.enclaves)) is h.items;
+      items = slots-set_enclave s.shape s.enclaves s.loaded e x (omega (arith, h.whole.enclaves)) is h.items;
     }
 
 thread_sound : (s : State) (t : ℕ) (x : Thread) → AreTables s → AreTables (with_thread s t x)
-thread_sound s t x h = record {
-  machine = h.machine;
-  regions = h.regions;
-  enclaves = h.enclaves;
-  threads = length-set _ _ _ ∙ h.threads;
-  flushed = h.flushed;
-  modes = h.modes;
-  loaded = h.loaded;
-  slots = h.slots;
-  items = h.items;
-}
+thread_sound s t x h = record { machine = h.machine; whole = thread_whole s t x h.whole; slots = h.slots; items = h.items }
 
 cell_sound : (s : State) (c k : ℕ) → AreTables s → AreTables (with_flushed s c k)
-cell_sound s c k h = record {
-  machine = h.machine;
-  regions = h.regions;
-  enclaves = h.enclaves;
-  threads = h.threads;
-  flushed = length-set _ _ _ ∙ h.flushed;
-  modes = h.modes;
-  loaded = h.loaded;
-  slots = h.slots;
-  items = h.items;
-}
+cell_sound s c k h = record { machine = h.machine; whole = cell_whole s c k h.whole; slots = h.slots; items = h.items }
 
 mode_sound : (s : State) (c : ℕ) (x : Mode) → NamesSlots x → AreTables s → AreTables (with_mode s c x)
 mode_sound s c x n h = record {
   machine = h.machine;
-  regions = h.regions;
-  enclaves = h.enclaves;
-  threads = h.threads;
-  flushed = h.flushed;
-  modes = length-set _ _ _ ∙ h.modes;
-  loaded = h.loaded;
+  whole = mode_whole s c x h.whole;
   slots = All-set NamesSlots s.modes c x n h.slots;
   items = h.items;
 }
@@ -224,10 +187,6 @@ assign_sound false s r to x y z p same root h = enclave_sound (with_region s r y
 deleted_sound : (s : State) (rs : List ℕ) (k : ℕ) → AreTables s → AreTables (with_deleted s rs k)
 deleted_sound s [] k h = h
 deleted_sound s (r ∷ rs) k h = deleted_sound _ rs k (region_sound s r _ h)
-
-deleted_shape : (s : State) (rs : List ℕ) (k : ℕ) → (with_deleted s rs k).shape ≡ s.shape
-deleted_shape s [] k = refl
-deleted_shape s (r ∷ rs) k = deleted_shape (with_region s r _) rs k
 
 empty_slot : (shape : Shape) (enclave : Enclave) → enclave.next_page ≡ 0 → is_initialized enclave.stage ≡ false → IsSlot shape enclave []
 empty_slot shape enclave none early = record { count = omega arith; next = omega arith; pages = tt; root = λ i. cc }
@@ -294,6 +253,15 @@ after_sound s new core call digest k reply n a is left h =
     by true f = f refl
     by false f = h
 
+pub after_tables : (s : State) (core : ℕ) (call : Call) (digest : List ℕ) (k : ℕ) → core < s.shape.cores → AreTables s → AreTables (after s core call digest k)
+after_tables s core call digest k small h = by (is_done (reply_of s core call)) (λ d.
+    let c = carried s core call d in
+    effect_sound s core call digest k (h.slots core modes.Os (omega (arith, h.whole.modes))) (in_range s.shape call c.value) c.held h)
+  where
+    by : (b : Bool) → (b ≡ true → AreTables (effect s core call digest k)) → AreTables (cond b (effect s core call digest k) s)
+    by true f = f refl
+    by false f = h
+
 -- ---- the start
 
 pub same_everywhere : {X : Type 0} (n i : ℕ) (a : X) → get_or (replicate n a) i a ≡ a
@@ -306,12 +274,7 @@ same_everywhere n i a =
 pub start_sound : (shape : Shape) → is_shape shape ≡ true → AreTables (start shape)
 start_sound shape is = record {
   machine = is;
-  regions = length-replicate _ _;
-  enclaves = refl;
-  threads = refl;
-  flushed = length-replicate _ _;
-  modes = length-replicate _ _;
-  loaded = refl;
+  whole = starts shape;
   slots = λ k d h. rw (get_or-replicate shape.cores k modes.Os d (omega (arith, length-replicate shape.cores modes.Os))) tt;
   items = λ e. rw (same_everywhere 8 e empty_enclave, same_everywhere {X = List Loaded} 8 e []) (empty_slot shape empty_enclave refl refl);
 }

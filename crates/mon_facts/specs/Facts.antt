@@ -1,6 +1,6 @@
 -- The facts of the tables that the sequential monitor keeps, beside their sizes and the tickets of
 -- regions. This project's own.
-use Rattle.std.specs.Prelude.{◌≡◌, ℕ, ◌<◌, Bool, true, false, ◌==◌, All, count_by}
+use Rattle.std.specs.Prelude.{◌≡◌, ℕ, ◌<◌, Bool, true, false, ◌==◌, Some, None, [], All, count_by}
 use Rattle.mon_types.specs.Shape.{Shape, region_of_page}
 use Rattle.mon_types.specs.Enclaves.{empty_enclave}
 use Rattle.mon_types.specs.declared.region.Owner.{Owner}
@@ -17,7 +17,7 @@ use Rattle.mon_types.specs.declared.thread.ThreadState.TheVariants as states
 use Rattle.mon_model.specs.State.{State, region_at, enclave_at, thread_at, mode_of, loaded_at}
 use Rattle.mon_types.specs.Bits.{has_bit}
 use Rattle.mon_model.specs.RegionCalls.{is_empty, is_loading, is_initialized}
-use Rattle.mon_seq.specs.Tables.{IsRooted}
+use Rattle.mon_facts.specs.Tables.{IsRooted}
 
 -- ---- regions
 
@@ -100,10 +100,24 @@ pub record IsPlaced (shape : Shape) (enclave : Enclave) (item : Loaded) : Type 0
 abbrev pub LoadedArePlaced : State → Type 0
 LoadedArePlaced s = (e : ℕ) → is_loading (enclave_at s e).stage ≡ true → All (IsPlaced s.shape (enclave_at s e)) (loaded_at s e)
 
+-- A root's page is below the next that the enclave may take, and lies in a region of its set as long as the
+-- enclave is Loading.
+pub record IsRootPlaced (shape : Shape) (enclave : Enclave) (page : ℕ) : Type 0 where
+  pub below : page < enclave.next_page
+  pub in_set : is_loading enclave.stage ≡ true → has_bit enclave.regions (region_of_page shape page) ≡ true
+
+-- each root is so placed
+abbrev pub RootsArePlaced : State → Type 0
+RootsArePlaced s = (e page : ℕ) → (enclave_at s e).root ≡ Some page → IsRootPlaced s.shape (enclave_at s e) page
+
+-- nothing is loaded into an enclave without a root
+abbrev pub RootlessAreEmpty : State → Type 0
+RootlessAreEmpty s = (e : ℕ) → (enclave_at s e).root ≡ None → loaded_at s e ≡ []
+
 -- ---- all of them
 
--- What each call keeps if it held before. `AreTables` has the roots, and `AreDated` the tickets of
--- Blocked regions.
+-- What each call keeps if it held before. `AreTables` has that an Initialized enclave has a root, and
+-- `AreDated` the tickets of Blocked regions.
 pub record FactsHold (s : State) : Type 0 where
   pub sets : SetsAreOwned s
   pub blank : EmptyAreBlank s
@@ -113,3 +127,5 @@ pub record FactsHold (s : State) : Type 0 where
   pub alone : InsideAreAlone s
   pub initialized : RunningAreInitialized s
   pub placed : LoadedArePlaced s
+  pub roots : RootsArePlaced s
+  pub rootless : RootlessAreEmpty s
