@@ -12,10 +12,11 @@ use Rattle.mon_types.specs.declared.call.Call.TheVariants as calls
 use Rattle.mon_types.specs.declared.object.Tried.{Tried}
 use Rattle.mon_types.specs.Owns.{os_word}
 use Rattle.mon_types.specs.Replies.{is_done}
+use Rattle.mon_model.specs.OnRegion.{owner_made}
 use Rattle.hist.specs.declared.event.Entry.{Entry}
 use Rattle.hist.specs.declared.period.Period.{Period}
 use Rattle.hist.specs.Merging.{Ascend}
-use Rattle.hist.specs.Period.{NameOwners, NamesOwnerIn, is_initialized, initialized_after, owner_made, owner_by, owner_of_period, period_with, period_in}
+use Rattle.hist.specs.Period.{NameOwners, NamesOwnerIn, is_initialized, initialized_after, owner_by, owner_of_period, period_with, period_in}
 use Rattle.hist.specs.Walk.{flag_of, FlagsGoOn, known_after}
 use Rattle.hist.proofs.Periods.{AreBelow, period_next}
 

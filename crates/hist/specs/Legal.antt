@@ -1,14 +1,13 @@
 -- When logs are a legal history of the sequential monitor. This project's own.
 use Rattle.std.specs.Prelude.{◌≡◌, ℕ, ◌+◌, ◌<◌, Bool, true, false, if◌then◌else◌, List, [], ◌∷◌, is_some}
 use Rattle.mon_types.specs.Shape.{Shape}
-use Rattle.mon_types.specs.declared.call.Call.{Call}
-use Rattle.mon_types.specs.declared.call.Call.TheVariants as calls
 use Rattle.hist.specs.declared.event.Entry.{Entry}
 use Rattle.hist.specs.declared.finished.Finished.{Finished}
 use Rattle.hist.specs.Logged.{Logged}
 use Rattle.hist.specs.History.{entries_of, history, digest_of, after_entry, last_state}
 use Rattle.mon_model.specs.State.{State, start}
 use Rattle.mon_types.specs.Replies.{is_done, is_concurrent}
+use Rattle.mon_model.specs.OnCore.{is_load_page}
 use Rattle.mon_model.specs.Step.{monitor_step}
 use Rattle.mon_model.specs.Tries.{tries, tried_set}
 
@@ -33,32 +32,6 @@ AreOwn core serial before (e ∷ es) = IsNext core serial before e × AreOwn cor
 abbrev pub AreOwnLogs : ℕ → List Logged → Type 0
 AreOwnLogs core [] = Unit {0}
 AreOwnLogs core (log ∷ logs) = AreOwn core 0 0 (entries_of log.events) × AreOwnLogs (core + 1) logs
-
-abbrev pub is_load_page : Call → Bool
-is_load_page (calls.Block r) = false
-is_load_page (calls.Free r) = false
-is_load_page (calls.Assign r to) = false
-is_load_page calls.Flush = false
-is_load_page (calls.RegionInfo r) = false
-is_load_page (calls.Create e base size) = false
-is_load_page (calls.LoadTable e va level page) = false
-is_load_page (calls.LoadPage e va page src perms) = true
-is_load_page (calls.LoadThread e t entry sp) = false
-is_load_page (calls.Init e) = false
-is_load_page (calls.DeleteThread e t) = false
-is_load_page (calls.Delete e) = false
-is_load_page (calls.Enter e t) = false
-is_load_page calls.Exit = false
-is_load_page (calls.Aex saved) = false
-is_load_page calls.Restore = false
-is_load_page (calls.Accept m from) = false
-is_load_page (calls.Send to m w0 w1 w2 w3) = false
-is_load_page (calls.Read m) = false
-is_load_page (calls.EnclaveInfo e) = false
-is_load_page (calls.SetSatp v) = false
-is_load_page (calls.AcceptRegion r) = false
-is_load_page (calls.Reserve e va page perms) = false
-is_load_page (calls.Unknown number args) = false
 
 -- an entry has a page exactly where it is a load_page that answered Ok
 abbrev pub has_its_page : Entry → Bool

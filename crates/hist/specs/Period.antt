@@ -1,7 +1,7 @@
 -- Periods of ownership, read off a history, and what a touch of one must keep. This project's own.
-use Rattle.std.specs.Prelude.{◌≡◌, ℕ, ◌^◌, ◌<◌, ◌⊎◌, ⊤, Bool, true, false, ◌==◌, ◌&&◌, nat_lt, if◌then◌else◌, IsTrue, List, [], ◌∷◌, ◌++◌, filter, find, fold, Any, Option, Some, None, unwrap_or, option_and_then, IfSome, IsSomeAnd}
+use Rattle.std.specs.Prelude.{◌≡◌, ℕ, ◌^◌, ◌<◌, ◌⊎◌, ⊤, Bool, true, false, ◌==◌, ◌&&◌, nat_lt, if◌then◌else◌, IsTrue, List, [], ◌∷◌, ◌++◌, filter, find, fold, Any, Option, Some, None, option_and_then, IfSome, IsSomeAnd}
 use Rattle.std.specs.Option.{option_map}
-use Rattle.std.specs.List.{range_with_len, AllByRecursion}
+use Rattle.std.specs.List.{AllByRecursion}
 use Rattle.mon_types.specs.declared.region.Owner.{Owner}
 use Rattle.mon_types.specs.declared.region.Owner.TheVariants as owners
 use Rattle.mon_types.specs.declared.thread.Mode.{Mode}
@@ -9,9 +9,10 @@ use Rattle.mon_types.specs.declared.thread.Mode.TheVariants as modes
 use Rattle.mon_types.specs.declared.call.Call.{Call}
 use Rattle.mon_types.specs.declared.call.Call.TheVariants as calls
 use Rattle.mon_types.specs.declared.object.Tried.{Tried}
-use Rattle.mon_types.specs.Bits.{has_bit}
 use Rattle.mon_types.specs.Owns.{os_word}
 use Rattle.mon_types.specs.Replies.{is_done}
+use Rattle.mon_model.specs.OnCore.{is_flush, clears, mode_by}
+use Rattle.mon_model.specs.OnRegion.{withdraws, frees, owner_made, initialized_by}
 use Rattle.hist.specs.declared.event.Entry.{Entry}
 use Rattle.hist.specs.declared.event.Event.{Event}
 use Rattle.hist.specs.declared.event.Event.TheVariants as events
@@ -21,30 +22,13 @@ use Rattle.hist.specs.History.{entries_of, history}
 
 -- ---- the beginning
 
--- an init of the slot makes it initialized, a create of it no longer so
-abbrev pub initialized_by : ℕ → Call → Bool → Bool
-initialized_by slot (calls.Create e base size) before = if e == slot then false else before
-initialized_by slot (calls.Init e) before = if e == slot then true else before
-initialized_by slot _ before = before
-
+-- whether a slot is initialized after one more entry
 abbrev pub initialized_after : ℕ → Bool → Entry → Bool
 initialized_after slot before e = if is_done e.reply then initialized_by slot e.call before else before
 
 -- whether these entries have an Ok init of the enclave slot with no Ok create of it behind
 abbrev pub is_initialized : List Entry → ℕ → Bool
 is_initialized es slot = fold (initialized_after slot) false es
-
--- the slot in a set of one enclave slot
-abbrev pub sole_slot : ℕ → ℕ
-sole_slot set = unwrap_or (find (has_bit set) (range_with_len 0 8)) 0
-
--- Whom a call that answers Ok makes the owner of region r: an assign of it names the OS, or an enclave
--- slot that is not initialized; an accept_region of it tried its enclave.
-abbrev pub owner_made : ℕ → (ℕ → Bool) → Call → Tried → Option Owner
-owner_made r initialized (calls.Assign q to) tried =
-    if q == r then (if to == os_word then Some owners.Os else if initialized to then None else Some (owners.Enclave to)) else None
-owner_made r initialized (calls.AcceptRegion q) tried = if q == r then Some (owners.Enclave (sole_slot tried.enclaves)) else None
-owner_made r initialized _ tried = None
 
 -- whom an entry makes the owner of region r
 abbrev pub owner_by : ℕ → (ℕ → Bool) → Entry → Option Owner
@@ -65,19 +49,10 @@ owner_of_period h r a =
 -- ---- the end
 
 -- an Ok block of r, or an Ok delete that has r among its tried objects
-abbrev pub withdraws : ℕ → Call → Tried → Bool
-withdraws r (calls.Block q) tried = q == r
-withdraws r (calls.Delete e) tried = has_bit tried.regions r
-withdraws r _ tried = false
-
 abbrev pub is_end : ℕ → Entry → Bool
 is_end r e = is_done e.reply && withdraws r e.call e.tried
 
 -- an Ok free of r
-abbrev pub frees : ℕ → Call → Bool
-frees r (calls.Free q) = q == r
-frees r _ = false
-
 abbrev pub is_free : ℕ → Entry → Bool
 is_free r e = is_done e.reply && frees r e.call
 
@@ -109,27 +84,14 @@ NameOwners h = AllByRecursion (λ e. is_done e.reply ≡ true → NamesOwnerIn e
 -- ---- touches
 
 -- an Ok of flush, enter, exit, aex or set_satp
-abbrev pub clears : Call → Bool
-clears calls.Flush = true
-clears (calls.Enter e t) = true
-clears calls.Exit = true
-clears (calls.Aex saved) = true
-clears (calls.SetSatp v) = true
-clears _ = false
-
 abbrev pub IsClearing : Entry → Type 0
 IsClearing e = IsTrue (is_done e.reply && clears e.call)
 
+-- an Ok flush
 abbrev pub IsFlush : Entry → Type 0
-IsFlush e = IsTrue (is_done e.reply) × (e.call ≡ calls.Flush)
+IsFlush e = IsTrue (is_done e.reply && is_flush e.call)
 
 -- for whom a core runs after these entries of its log: an Ok enter, exit or aex changes it
-abbrev pub mode_by : Call → Mode → Mode
-mode_by (calls.Enter e t) before = modes.Inside e t
-mode_by calls.Exit before = modes.Os
-mode_by (calls.Aex saved) before = modes.Os
-mode_by _ before = before
-
 abbrev pub mode_after : List Entry → Mode
 mode_after es = fold (λ before e. if is_done e.reply then mode_by e.call before else before) modes.Os es
 

@@ -5,9 +5,10 @@ ghost use Rattle.std.specs.List.{AllByRecursion};
 ghost use Rattle.mon_types.specs.declared.region.Owner.TheVariants as owners;
 ghost use Rattle.mon_types.specs.Owns.{os_word};
 ghost use Rattle.mon_types.specs.Replies.{is_done};
+ghost use Rattle.mon_model.specs.OnRegion.{sole_slot};
 ghost use Rattle.hist.specs.History.{history};
 ghost use Rattle.hist.specs.Merging.{CanMerge};
-ghost use Rattle.hist.specs.Period.{NameOwners, NamesOwnerIn, period_in, owner_by, sole_slot, is_end, is_free};
+ghost use Rattle.hist.specs.Period.{NameOwners, NamesOwnerIn, period_in, owner_by, is_end, is_free};
 ghost use Rattle.hist.specs.Walk.{flag_of, FlagsGoOn, begun_period, go_on, known_after};
 
 use crate::event::Entry;

@@ -8,3 +8,7 @@ pub mod Whole
 pub mod Carried
 pub mod Pairs
 pub mod Agree
+pub mod Writes
+pub mod RegionSteps
+pub mod CoreSteps
+pub mod StageSteps

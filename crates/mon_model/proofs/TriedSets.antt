@@ -1,10 +1,12 @@
 -- The sets of tried cells and of tried regions.
-use Rattle.std.proofs.Common.{◌≡◌, ℕ, zero, suc, ◌+◌, ◌-◌, ◌*◌, ◌/◌, ◌%◌, ◌^◌, ◌<◌, Bool, true, false, cond, List, [], ◌∷◌, refl, sym, ap, ◌∙◌, arith, add-zero, add-one, zero-add, ◌≤◌, inl, inr}
+use Rattle.std.proofs.Common.{◌≡◌, ℕ, zero, suc, ◌+◌, ◌-◌, ◌*◌, ◌/◌, ◌%◌, ◌^◌, ◌<◌, ◌==◌, Bool, true, false, cond, List, [], ◌∷◌, refl, sym, ap, ◌∙◌, arith, add-zero, add-one, zero-add, ◌≤◌, inl, inr}
 use Rattle.std.specs.Prelude.{map, sum_by}
 use Rattle.std.specs.List.{range_with_len}
-use Rattle.std.proofs.Math.Nat.{pow-succ'}
+use Rattle.std.specs.Int.{bit_at}
+use Rattle.std.proofs.Math.Nat.{pow-succ', div-add-mod'}
 use Rattle.std.proofs.Math.Pow.{pow-lt, pow_mono}
 use Rattle.std.proofs.lemmas.Nat.{mod-pow-add}
+use Rattle.std.proofs.lemmas.Nat.Bits.{bit_at_cat_low}
 use Rattle.std.proofs.lemmas.Bool.{eqb-true, eqb-false}
 use Rattle.std.proofs.lemmas.Bool.Decides.{leb_tells}
 use Rattle.std.proofs.lemmas.List.Sums.{sum_by-append, sum_by-cons}
@@ -81,6 +83,15 @@ region_and_cells r n = ap (add_tried (objects.Region r)) (cells_all n) ∙ ap (�
 
 pub slot_and_regions : (e word n : ℕ) → tried_set (objects.Enclave e ∷ map (λ r. objects.Region r) (members word n)) ≡ tried_of (2 ^ e) 0 (word % 2 ^ n) 0
 slot_and_regions e word n = ap (add_tried (objects.Enclave e)) (regions_below word n) ∙ ap (λ (x : ℕ). tried_of x 0 (word % 2 ^ n) 0) (zero-add (2 ^ e))
+
+low_bit : (word n i : ℕ) → i < n → bit_at (word % 2 ^ n) i ≡ bit_at word i
+low_bit word n i lt =
+    let whole : word / 2 ^ n * 2 ^ n + word % 2 ^ n ≡ word = div-add-mod' word (2 ^ n) in
+    sym (bit_at_cat_low (word / 2 ^ n) n (word % 2 ^ n) i lt) ∙ ap (λ (x : ℕ). bit_at x i) whole
+
+-- whether region r is among those that a delete tried, is whether it is in the enclave's set
+pub tried_region : (e word n r : ℕ) → r < n → has_bit (tried_set (objects.Enclave e ∷ map (λ r. objects.Region r) (members word n))).regions r ≡ has_bit word r
+tried_region e word n r lt = ap (λ (t : Tried). has_bit t.regions r) (slot_and_regions e word n) ∙ ap (λ (x : ℕ). x == 1) (low_bit word n r lt)
 
 -- two different powers of two below a third add up to less than it
 ascending : (a b n : ℕ) → a < b → b ≤ n → 2 ^ a + 2 ^ b < 2 ^ suc n

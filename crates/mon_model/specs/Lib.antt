@@ -11,10 +11,14 @@ pub mod MailCalls
 pub mod Step
 pub mod InRange
 pub mod Tries
+pub mod OnCore
+pub mod OnRegion
+pub mod RegionStep
 pub mod EveryReply
 pub mod EveryStep
 pub mod Measured
 pub mod Digests
 pub mod EveryMeasure
 pub mod Laws
+pub mod CallLaws
 pub mod Examples

@@ -3,6 +3,7 @@
 //! runs of calls from the start of a machine, with what each call answers and tries.
 #![tactic(auto, unfolding(mon_types::specs::Bits::members))]
 
+mod any_call;
 mod inside;
 mod loading;
 mod offers;
@@ -10,6 +11,7 @@ mod regions;
 
 ghost use Rattle.mon_model.specs.Laws.{RefusalChangesNothing, NeverConcurrent, ChangesOnlyTried, ReadsOnlyTried, StartIsWhole, StaysWhole};
 
+pub use any_call::{any_call_on_a_region, any_call_on_its_core, any_call_on_slots};
 pub use inside::{delete_from_inside, enclave_blocks_own_region, self_mail, tick_and_restore};
 pub use loading::{
     create_overflow, delete_blocks, init_without_thread, loads_an_enclave, page_below_next,

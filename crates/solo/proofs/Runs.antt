@@ -21,7 +21,8 @@ use Rattle.hist.specs.declared.event.Event.{Event}
 use Rattle.hist.specs.declared.event.Event.TheVariants as events
 use Rattle.hist.specs.declared.event.Why.TheVariants as whys
 use Rattle.hist.specs.History.{entry_in, entries_of, digest_of, after_entry, after_entries}
-use Rattle.hist.specs.Legal.{AreTickets, AreOwn, AreLegalEntries, IsLegalEntry, is_load_page}
+use Rattle.mon_model.specs.OnCore.{is_load_page}
+use Rattle.hist.specs.Legal.{AreTickets, AreOwn, AreLegalEntries, IsLegalEntry}
 use Rattle.report.specs.Calls.{HasFewWords, IsPrintable}
 use Rattle.solo.specs.Solo.{Core, core_start, mode_now, entry_places, page_input, digest_for, entry_of, called, tick_cause, ticked, pc_set, reg_set, core_after, is_spent, stopped, core_from}
 use Rattle.solo.specs.Context.{saved_words}

@@ -1,7 +1,7 @@
 use Rattle.std.proofs.Common.{◌≡◌, ℕ, zero, suc, ◌^◌, ◌<◌, refl, sym, subst, arith}
 use Rattle.std.specs.Int.{trailing_zeros, w8}
 use Rattle.std.specs.Int.Count.{count_trailing_zeros}
-use Rattle.hist.specs.Period.{sole_slot}
+use Rattle.mon_model.specs.OnRegion.{sole_slot}
 use Rattle.hist.proofs.period.sole_slot.Goals as goal
 
 alone : (slot : ℕ) → slot < 8 → trailing_zeros w8 (2 ^ slot) ≡ sole_slot (2 ^ slot)
