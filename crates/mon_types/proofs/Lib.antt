@@ -1,1 +1,5 @@
 pub mod Sets
+pub mod Rows
+pub mod RegionRows
+pub mod EnclaveRows
+pub mod ThreadRows

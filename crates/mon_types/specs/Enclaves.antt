@@ -1,12 +1,13 @@
 -- The records of enclave slots, and the rows of words that hold them, all this project's own.
-use Rattle.std.specs.Prelude.{◌≡◌, ℕ, ◌+◌, ◌^◌, ◌<◌, ⊤, List, [], ◌∷◌, ◌++◌, length, replicate, Option, Some, None}
+use Rattle.std.specs.Prelude.{◌≡◌, ℕ, ◌+◌, ◌-◌, ◌%◌, ◌^◌, ◌<◌, ⊤, ◌==◌, nat_lt, if◌then◌else◌, List, [], ◌∷◌, ◌++◌, length, replicate, take, drop, slice_index, Option, Some, None}
 use Rattle.std.specs.List.{AllByRecursion}
 use Rattle.mon_types.specs.declared.enclave.Stage.{Stage}
 use Rattle.mon_types.specs.declared.enclave.Stage.TheVariants as stages
 use Rattle.mon_types.specs.declared.enclave.Mailbox.{Mailbox}
 use Rattle.mon_types.specs.declared.enclave.Mailbox.TheVariants as mailboxes
 use Rattle.mon_types.specs.declared.enclave.Enclave.{Enclave}
-use Rattle.mon_types.specs.Words.{AreWords}
+use Rattle.mon_types.specs.Words.{AreWords, fitting, same_words}
+use Rattle.mon_types.specs.Shape.{Shape, page_total}
 
 -- the record of a slot that holds no enclave: all numbers 0, no root, closed mailboxes
 abbrev pub empty_enclave : Enclave
@@ -85,3 +86,52 @@ numbers_row e =
 -- the 29 words of a slot: seven numbers, four words of measurement, and two mailboxes
 abbrev pub enclave_row : Enclave → List ℕ
 enclave_row e = numbers_row e ++ e.measure ++ mail_rows e.mail
+
+-- the stage that a word names: 1 Loading, 2 Initialized, and Empty for any other word
+unfoldable pub stage_from : ℕ → Stage
+stage_from word = if word == 1 then stages.Loading else if word == 2 then stages.Initialized else stages.Empty
+
+-- no root for 0, else the page one below
+unfoldable pub root_from : ℕ → Option ℕ
+root_from word = if word == 0 then None else Some (fitting (2 ^ 16) (word - 1))
+
+-- the mailbox of a tag, with these words where it has a message: 1 to 8 Expecting, 9 to 16 Full, and Closed for
+-- any other tag
+unfoldable pub mailbox_by : ℕ → List ℕ → List ℕ → Mailbox
+mailbox_by tag words measure =
+    if tag == 0 then mailboxes.Closed else
+    if nat_lt tag 9 then mailboxes.Expecting (tag - 1) else
+    if nat_lt tag 17 then mailboxes.Full (tag - 9) words measure else
+    mailboxes.Closed
+
+-- the parts of nine words, each read as what stands there in a mailbox's row
+unfoldable pub mailbox_parts : List ℕ → Mailbox
+mailbox_parts words = mailbox_by (slice_index words 0) (take 4 (drop 1 words)) (take 4 (drop 5 words))
+
+-- the parts of 29 words, each read as what stands there in a row
+unfoldable pub enclave_parts : List ℕ → Enclave
+enclave_parts words = record {
+  stage = stage_from (slice_index words 0);
+  base = slice_index words 1;
+  size = slice_index words 2;
+  regions = slice_index words 3;
+  root = root_from (slice_index words 4);
+  next_page = fitting (2 ^ 16) (slice_index words 5);
+  threads = fitting (2 ^ 8) (slice_index words 6);
+  measure = take 4 (drop 7 words);
+  mail = mailbox_parts (take 9 (drop 11 words)) ∷ mailbox_parts (take 9 (drop 20 words)) ∷ [];
+}
+
+-- the record whose row these words are; an empty slot where they are no enclave's row
+unfoldable pub enclave_from : List ℕ → Enclave
+enclave_from words = if same_words (enclave_row (enclave_parts words)) words then enclave_parts words else empty_enclave
+
+-- the root, if it is a page of this machine
+unfoldable pub root_within : Shape → Option ℕ → Option ℕ
+root_within m None = None
+root_within m (Some page) = if nat_lt page (page_total m) then Some page else None
+
+-- the record without what is past the machine's end: the bits of the region set from its last region on, and a root
+-- that is no page of it
+unfoldable pub enclave_within : Shape → Enclave → Enclave
+enclave_within m e = record e { regions = e.regions % 2 ^ m.regions; root = root_within m e.root }

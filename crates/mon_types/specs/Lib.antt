@@ -4,6 +4,8 @@ pub mod Locks
 pub mod Owns
 pub mod Enclaves
 pub mod Threads
+pub mod Cells
+pub mod RowLaws
 pub mod Objects
 pub mod Calls
 pub mod LimitLaws

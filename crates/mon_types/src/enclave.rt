@@ -1,7 +1,9 @@
 //! Enclave slots.
 
-ghost use Rattle.std.specs.Prelude.{◌≡◌};
-ghost use Rattle.mon_types.specs.Enclaves.{empty_enclave};
+ghost use Rattle.std.specs.Prelude.{◌≡◌, ◌%◌, ◌^◌, ◌≤◌};
+ghost use Rattle.mon_types.specs.Enclaves.{empty_enclave, enclave_within, root_within};
+
+use crate::config::Config;
 
 /// How far the enclave of a slot has come.
 #[derive(Clone, Copy, Debug, PartialEq, Eq)]
@@ -48,6 +50,25 @@ pub struct Enclave {
     pub mail: [Mailbox; 2],
 }
 
+/// The set without its members from `count` (2 to 64) on.
+fn low_bits(set: u64, count: u8) -> u64
+    requires { count ≤ 64 }
+    ensures { result ≡ set % 2 ^ count }
+{
+    if count == 64 { set } else { set % (1 << count) }
+}
+
+/// The root, if it is a page of this machine.
+#[tactic(auto, unfolding(crate::specs::Enclaves::root_within))]
+fn root_within(config: &Config, root: Option<u16>) -> Option<u16>
+    ensures { result ≡ root_within config.now root }
+{
+    match root {
+        Some(page) if page < config.total_pages() => Some(page),
+        _ => None,
+    }
+}
+
 impl Enclave {
     /// The record of a slot that holds no enclave.
     pub fn empty() -> Enclave
@@ -63,6 +84,19 @@ impl Enclave {
             threads: 0,
             measure: [0; 4],
             mail: [Mailbox::Closed; 2],
+        }
+    }
+
+    /// The record without what is past the machine's end: the bits of the region set from its last region
+    /// on, and a root that is no page of it.
+    #[tactic(auto, using(crate::specs::LimitLaws::few_regions), unfolding(crate::specs::Enclaves::enclave_within))]
+    pub fn within(&self, config: &Config) -> Enclave
+        ensures { result ≡ enclave_within config.now self.now }
+    {
+        Enclave {
+            regions: low_bits(self.regions, config.regions()),
+            root: root_within(config, self.root),
+            ..*self
         }
     }
 }

@@ -1,10 +1,8 @@
 //! The rows of words that hold the records of enclave slots.
 
-ghost use Rattle.std.specs.Prelude.{◌≡◌, ◌≢◌, ℕ, ◌+◌, Option, ◌∷◌, ◌++◌};
-ghost use Rattle.mon_types.specs.declared.enclave.Stage.{Stage};
-ghost use Rattle.mon_types.specs.declared.enclave.Mailbox.{Mailbox};
+ghost use Rattle.std.specs.Prelude.{◌≡◌, ◌≢◌, ◌+◌, ◌∷◌, ◌++◌};
 ghost use Rattle.mon_types.specs.declared.enclave.Enclave.{Enclave};
-ghost use Rattle.mon_types.specs.Enclaves.{IsEnclave, IsMailbox, IsRoot, MailboxNamesSlot, EnclaveNamesSlots, empty_enclave, enclave_row, mailbox_row, numbers_row, root_code, stage_code};
+ghost use Rattle.mon_types.specs.Enclaves.{IsEnclave, MailboxNamesSlot, EnclaveNamesSlots, empty_enclave, enclave_from, enclave_parts, enclave_row, mailbox_parts, mailbox_row, numbers_row, root_code, root_from, stage_code, stage_from};
 
 use crate::enclave::{Enclave, Mailbox, Stage};
 use crate::words::{joined, u8_of, u16_of, words_at};
@@ -19,8 +17,9 @@ fn stage_word(stage: Stage) -> u64
     }
 }
 
+#[tactic(auto, unfolding(crate::specs::Enclaves::stage_from))]
 fn stage_of(word: u64) -> Stage
-    ensures { (stage : Stage) → stage_code stage ≡ word → result ≡ stage }
+    ensures { result ≡ stage_from word }
 {
     match word {
         1 => Stage::Loading,
@@ -38,9 +37,9 @@ fn root_word(root: Option<u16>) -> u64
     }
 }
 
+#[tactic(auto, unfolding(crate::specs::Enclaves::root_from))]
 fn root_of(word: u64) -> Option<u16>
-    ensures valid { IsRoot result }
-    ensures back { (root : Option ℕ) → IsRoot root → root_code root ≡ word → result ≡ root }
+    ensures { result ≡ root_from word }
 {
     if word == 0 {
         None
@@ -73,9 +72,9 @@ fn mailbox_words(mailbox: &Mailbox) -> [u64; 9]
 }
 
 /// The mailbox whose row these words are; some mailbox where none has this row.
+#[tactic(auto, unfolding(crate::specs::Enclaves::mailbox_parts, crate::specs::Enclaves::mailbox_by))]
 fn mailbox_of(words: &[u64; 9]) -> Mailbox
-    ensures valid { IsMailbox result }
-    ensures back { (m : Mailbox) → IsMailbox m → mailbox_row m ≡ words.now → result ≡ m }
+    ensures { result ≡ mailbox_parts words.now }
 {
     match words[0] {
         tag @ 1..=8 => Mailbox::Expecting {
@@ -120,9 +119,10 @@ pub fn enclave_words(enclave: &Enclave) -> [u64; 29]
 }
 
 /// The record whose row these words are; some record where none has this row.
+#[tactic(auto, unfolding(crate::specs::Enclaves::enclave_parts))]
 fn candidate(words: &[u64; 29]) -> Enclave
+    ensures parts { result ≡ enclave_parts words.now }
     ensures valid { IsEnclave result }
-    ensures back { (e : Enclave) → IsEnclave e → enclave_row e ≡ words.now → result ≡ e }
 {
     Enclave {
         stage: stage_of(words[0]),
@@ -143,6 +143,7 @@ fn candidate(words: &[u64; 29]) -> Enclave
 /// The record whose row these words are; where they are no record's row, that of a slot that holds no
 /// enclave.
 pub fn enclave_of(words: &[u64; 29]) -> Enclave
+    ensures read { result ≡ enclave_from words.now }
     ensures valid { IsEnclave result }
     ensures back { (e : Enclave) → IsEnclave e → enclave_row e ≡ words.now → result ≡ e }
     ensures none { ((e : Enclave) → IsEnclave e → enclave_row e ≢ words.now) → result ≡ empty_enclave }

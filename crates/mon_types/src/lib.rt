@@ -6,11 +6,13 @@
 
 mod bits;
 mod call;
+mod cell;
 mod config;
 mod enclave;
 mod enclave_row;
 mod image;
 mod items;
+mod laws;
 mod lock;
 mod object;
 mod region;
@@ -25,11 +27,13 @@ mod words;
 
 pub use bits::{has_bit, with_bit, without_bit};
 pub use call::Call;
+pub use cell::cell_of;
 pub use config::Config;
 pub use enclave::{Enclave, Loaded, LoadedKind, Mailbox, Stage};
 pub use enclave_row::{enclave_of, enclave_words};
 pub use image::{Image, Segment, Start};
 pub use items::Items;
+pub use laws::{readers_are_total, rows_are_wide, rows_read_back, within_keeps_records};
 pub use lock::{pack_lock, unpack_lock};
 pub use object::{ObjectId, Tried};
 pub use region::{OS_WORD, Owner, Region, pack_at, pack_own, unpack_own};

@@ -1,9 +1,11 @@
 //! Regions of memory and who owns them.
 
-ghost use Rattle.std.specs.Prelude.{◌≡◌, ◌≤◌, Some, IfSome};
+ghost use Rattle.std.specs.Prelude.{◌≡◌, ◌≤◌, Some, IfSome, [], ◌∷◌};
 ghost use Rattle.mon_types.specs.declared.region.Owner.{Owner};
 ghost use Rattle.mon_types.specs.declared.region.Region.{Region};
-ghost use Rattle.mon_types.specs.Owns.{IsOwner, RegionNamesSlot, IsRegionRow, owner_code, own_word, at_word};
+ghost use Rattle.mon_types.specs.Owns.{IsOwner, RegionNamesSlot, IsRegionRow, owner_code, own_word, at_word, owner_from, region_from, region_or_free, region_parts};
+
+use crate::words::u32_of;
 
 /// The word that names the OS in arguments and replies.
 pub const OS_WORD: u64 = 18446744073709551615;
@@ -41,14 +43,14 @@ fn owner_word(owner: Owner) -> u64
     }
 }
 
-fn owner_of(code: u64) -> Option<Owner>
-    ensures found { IfSome result (λ o. IsOwner o × (owner_code o ≡ code)) }
-    ensures only { (o : Owner) → IsOwner o → owner_code o ≡ code → result ≡ Some o }
+/// Whom a code names: 1 to 8 the enclave slots from 0 on, and the OS for any other code.
+#[tactic(auto, unfolding(crate::specs::Owns::owner_from))]
+fn owner_of(code: u64) -> Owner
+    ensures { result ≡ owner_from code }
 {
     match code {
-        0 => Some(Owner::Os),
-        1..=8 => Some(Owner::Enclave((code - 1) as u8)),
-        _ => None,
+        1..=8 => Owner::Enclave((code - 1) as u8),
+        _ => Owner::Os,
     }
 }
 
@@ -76,19 +78,31 @@ pub fn pack_at(region: &Region) -> u64
     }
 }
 
+/// The region whose row these two words are; some region where they are no region's row.
+#[tactic(auto, unfolding(crate::specs::Owns::region_parts, crate::specs::Owns::region_by))]
+fn candidate(word: u64, at: u64) -> Region
+    ensures { result ≡ region_parts (word ∷ at ∷ []) }
+{
+    let since = u32_of(word / 64);
+    let at = u32_of(at);
+    match (word % 4, owner_of(word / 4 % 16)) {
+        (1, owner) => Region::Owned { owner, since },
+        (2, owner) => Region::Blocked { owner, since, at },
+        (3, Owner::Enclave(to)) => Region::Offered { to, at: since },
+        _ => Region::Free,
+    }
+}
+
 /// The region whose row these two words are; None exactly where they are no region's row.
 pub fn unpack_own(word: u64, at: u64) -> Option<Region>
     ensures found { IfSome result (λ region. IsRegionRow word at region) }
     ensures only { (region : Region) → IsRegionRow word at region → result ≡ Some region }
+    ensures read { region_or_free result ≡ region_from (word ∷ at ∷ []) }
 {
-    let since = u32::try_from(word / 64).ok()?;
-    let at = u32::try_from(at).ok()?;
-    let owner = owner_of(word / 4 % 16)?;
-    match (word % 4, owner) {
-        (0, Owner::Os) if since == 0 && at == 0 => Some(Region::Free),
-        (1, _) if at == 0 => Some(Region::Owned { owner, since }),
-        (2, _) => Some(Region::Blocked { owner, since, at }),
-        (3, Owner::Enclave(to)) if at == 0 => Some(Region::Offered { to, at: since }),
-        _ => None,
+    let region = candidate(word, at);
+    if pack_own(&region) == word && pack_at(&region) == at {
+        Some(region)
+    } else {
+        None
     }
 }

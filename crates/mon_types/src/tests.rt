@@ -1,7 +1,7 @@
 //! Rows, words and numbers worked out by hand.
 
 use crate::{
-    Call, Config, Enclave, Mailbox, ObjectId, Owner, Region, Stage, Thread, ThreadState,
+    Call, Config, Enclave, Mailbox, ObjectId, Owner, Region, Stage, Thread, ThreadState, cell_of,
     enclave_of, enclave_words, pack_at, pack_lock, pack_own, thread_of, thread_words, unpack_lock,
     unpack_own,
 };
@@ -83,6 +83,18 @@ fn rows_of_slots(rt: HostRuntime) {
     assert_eq!(rt; thread_of(&row), thread);
     row[3] = 4294967296;
     assert_eq!(rt; thread_of(&row), Thread::empty());
+}
+
+#[test]
+fn words_past_the_end(rt: HostRuntime) {
+    let mut enclave = Enclave::empty();
+    enclave.regions = 1 + 128 + 256;
+    enclave.root = Some(8);
+    let small = enclave.within(&Config::plain(1));
+    assert_eq!(rt; small.regions, 129);
+    assert_eq!(rt; small.root, None);
+    assert_eq!(rt; cell_of(7), 7);
+    assert_eq!(rt; cell_of(4294967296), 0);
 }
 
 #[test]

@@ -1,9 +1,8 @@
 //! The rows of words that hold the records of thread slots.
 
 ghost use Rattle.std.specs.Prelude.{◌≡◌, ◌≢◌};
-ghost use Rattle.mon_types.specs.declared.thread.ThreadState.{ThreadState};
 ghost use Rattle.mon_types.specs.declared.thread.Thread.{Thread};
-ghost use Rattle.mon_types.specs.Threads.{IsThread, StateNamesSlot, empty_thread, state_code, thread_row};
+ghost use Rattle.mon_types.specs.Threads.{IsThread, StateNamesSlot, empty_thread, state_code, state_from, thread_from, thread_parts, thread_row};
 
 use crate::thread::{Thread, ThreadState};
 use crate::words::{joined, u32_of, words_at};
@@ -19,9 +18,9 @@ fn state_word(state: ThreadState) -> u64
     }
 }
 
+#[tactic(auto, unfolding(crate::specs::Threads::state_from))]
 fn state_of(word: u64) -> ThreadState
-    ensures valid { StateNamesSlot result }
-    ensures back { (s : ThreadState) → StateNamesSlot s → state_code s ≡ word → result ≡ s }
+    ensures { result ≡ state_from word }
 {
     match word {
         1..=8 => ThreadState::Ready {
@@ -50,9 +49,10 @@ pub fn thread_words(thread: &Thread) -> [u64; 37]
 }
 
 /// The record whose row these words are; some record where none has this row.
+#[tactic(auto, unfolding(crate::specs::Threads::thread_parts))]
 fn candidate(words: &[u64; 37]) -> Thread
+    ensures parts { result ≡ thread_parts words.now }
     ensures valid { IsThread result }
-    ensures back { (t : Thread) → IsThread t → thread_row t ≡ words.now → result ≡ t }
 {
     Thread {
         state: state_of(words[0]),
@@ -66,6 +66,7 @@ fn candidate(words: &[u64; 37]) -> Thread
 /// The record whose row these words are; where they are no record's row, that of a slot that holds no
 /// thread.
 pub fn thread_of(words: &[u64; 37]) -> Thread
+    ensures read { result ≡ thread_from words.now }
     ensures valid { IsThread result }
     ensures back { (t : Thread) → IsThread t → thread_row t ≡ words.now → result ≡ t }
     ensures none { ((t : Thread) → IsThread t → thread_row t ≢ words.now) → result ≡ empty_thread }

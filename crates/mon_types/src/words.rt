@@ -1,25 +1,28 @@
 //! Words of 64 bits, one by one and in a row.
 
-ghost use Rattle.std.specs.Prelude.{◌≡◌, ◌+◌, ◌^◌, ◌<◌, ◌≤◌, ◌++◌, length, take, drop};
-ghost use Rattle.mon_types.specs.Words.{AreWords};
+ghost use Rattle.std.specs.Prelude.{◌≡◌, ◌+◌, ◌^◌, ◌≤◌, ◌++◌, length, take, drop};
+ghost use Rattle.mon_types.specs.Words.{AreWords, fitting};
 
 /// The number that a word holds; 0 where it is too large for its type.
+#[tactic(auto, unfolding(crate::specs::Words::fitting))]
 pub(crate) fn u16_of(word: u64) -> u16
-    ensures { word < 2 ^ 16 → result ≡ word }
+    ensures { result ≡ fitting (2 ^ 16) word }
 {
     u16::try_from(word).unwrap_or(0)
 }
 
 /// The number that a word holds; 0 where it is too large for its type.
+#[tactic(auto, unfolding(crate::specs::Words::fitting))]
 pub(crate) fn u8_of(word: u64) -> u8
-    ensures { word < 2 ^ 8 → result ≡ word }
+    ensures { result ≡ fitting (2 ^ 8) word }
 {
     u8::try_from(word).unwrap_or(0)
 }
 
 /// The number that a word holds; 0 where it is too large for its type.
+#[tactic(auto, unfolding(crate::specs::Words::fitting))]
 pub(crate) fn u32_of(word: u64) -> u32
-    ensures { word < 2 ^ 32 → result ≡ word }
+    ensures { result ≡ fitting (2 ^ 32) word }
 {
     u32::try_from(word).unwrap_or(0)
 }

@@ -1,28 +1,32 @@
--- Where a region has these words, the part of the first that names an owner names one.
-use Rattle.std.proofs.Common.{◌≡◌, ◌≤◌, ◌/◌, ◌%◌, ℕ, arith}
-use Rattle.mon_types.specs.declared.region.Owner.{Owner}
-use Rattle.mon_types.specs.declared.region.Owner.TheVariants as owners
-use Rattle.mon_types.specs.declared.region.Region.{Region}
-use Rattle.mon_types.specs.declared.region.Region.TheVariants as regions
-use Rattle.mon_types.specs.Owns.{IsOwner, IsRegionRow, owner_code}
+-- Words whose parts have them as their row are a region's; others are no region's.
+use Rattle.std.proofs.Common.{◌≡◌, ◌∙◌, Some, ap}
+use Rattle.mon_types.specs.Owns.{own_word, at_word}
+use Rattle.mon_types.proofs.RegionRows.{parts_named, found, read_found, one_found, none_found, read_none}
+use Rattle.mon_types.proofs.region.unpack_own.Goals.{else-pack_own-word-via-then-pack_own-word+else-pack_at-at, else-pack_own-word-via-else-pack_own-word}
 use Rattle.mon_types.proofs.region.unpack_own.Goals as goal
 
-owner_code-small : (o : Owner) → IsOwner o → owner_code o ≤ 8
-owner_code-small owners.Os h = omega arith
-owner_code-small (owners.Enclave e) h = omega arith
+pub pack_own-requires : goal.pack_own-requires
+pack_own-requires c = parts_named _ _ c.candidate-region.ensures
 
-owner_within : (region : Region) (word at : ℕ) → IsRegionRow word at region → (o : Owner) × IsOwner o × (owner_code o ≡ word / 4 % 16)
-owner_within regions.Free word at h = (owners.Os, tt, omega arith)
-owner_within (regions.Owned owner since) word at h =
-    let small = owner_code-small owner h.valid.0 in
-    (owner, h.valid.0, omega arith)
-owner_within (regions.Blocked owner since a) word at h =
-    let small = owner_code-small owner h.valid.0 in
-    (owner, h.valid.0, omega arith)
-owner_within (regions.Offered to a) word at h = (owners.Enclave to, h.valid.0, omega arith)
+pub returns-then-pack_at-at-clause-found : goal.returns-then-pack_at-at-clause-found
+returns-then-pack_at-at-clause-found c = found c.args.word c.args.at _ c.candidate-region.ensures (cc) (cc)
 
-pub returns-in_err-owner-clause-only : goal.returns-in_err-owner-clause-only
-returns-in_err-owner-clause-only c region row =
-    let there = owner_within region c.args.word c.args.at row in
-    let none = c.in_err-owner.ensures.only there.0 there.1 there.2 in
-    cc
+pub returns-then-pack_at-at-clause-only : goal.returns-then-pack_at-at-clause-only
+returns-then-pack_at-at-clause-only c other h =
+    ap Some (one_found c.args.word c.args.at _ other (found c.args.word c.args.at _ c.candidate-region.ensures (cc) (cc)) h)
+
+pub returns-then-pack_at-at-clause-read : goal.returns-then-pack_at-at-clause-read
+returns-then-pack_at-at-clause-read c =
+    read_found c.args.word c.args.at _ (found c.args.word c.args.at _ c.candidate-region.ensures (cc) (cc))
+
+differs : (c : goal.Joined-else-pack_own-word) → own_word c.candidate-region.result ≡ c.args.word → at_word c.candidate-region.result ≡ c.args.at → ⊥
+differs c first second = elim c.else-pack_own-word.branch [
+  | else-pack_own-word-via-then-pack_own-word+else-pack_at-at w ↦ w.if-pack_at-at.false (w.pack_at.ensures ∙ second)
+  | else-pack_own-word-via-else-pack_own-word w ↦ w.if-pack_own-word.false (c.pack_own.ensures ∙ first)
+]
+
+pub returns-else-pack_own-word-clause-only : goal.returns-else-pack_own-word-clause-only
+returns-else-pack_own-word-clause-only c other h = absurd (none_found c.args.word c.args.at _ other c.candidate-region.ensures (differs c) h)
+
+pub returns-else-pack_own-word-clause-read : goal.returns-else-pack_own-word-clause-read
+returns-else-pack_own-word-clause-read c = read_none c.args.word c.args.at c.candidate-region.result c.candidate-region.ensures (differs c)
