@@ -11,7 +11,7 @@ use Rattle.mon_types.specs.declared.enclave.Enclave.{Enclave}
 use Rattle.mon_types.specs.declared.thread.Mode.TheVariants as modes
 use Rattle.mon_types.specs.declared.reply.Reply.{Reply}
 use Rattle.mon_types.specs.declared.reply.Reply.TheVariants as replies
-use Rattle.mon_types.specs.Replies.{done, done_if, told_eight}
+use Rattle.mon_types.specs.Replies.{done_if, told_eight}
 use Rattle.mon_model.specs.RegionCalls.{acts_for, is_empty, is_loading}
 use Rattle.mon_model.specs.Loading.{in_range, has_root, takes_page, reserves_page, has_place_for_table, has_place_for_leaf}
 use Rattle.mon_model.specs.Measure.{Item, Table, Page, Init, reserved_level, measure_created, measure_with}
