@@ -1,0 +1,3 @@
+pub mod Pte
+pub mod Tables
+pub mod Laws
