@@ -4,19 +4,13 @@ ghost use Rattle.std.specs.Prelude.{◌≡◌, ℕ, ◌<◌, Some, IfSome};
 ghost use Rattle.mon_types.specs.Shape.{page_total};
 ghost use Rattle.dram_map.specs.Addresses.{LiesIn, page_of, page_start, word_total, word_of, word_start, first_word, page_of_word, frame_of, page_of_frame};
 
-use mon_types::Config;
+use mon_types::{Config, PAGE_BYTES, PAGE_WORDS};
 
 /// The physical address of DRAM's first byte.
 pub const DRAM_START: u64 = 0x8000_0000;
 
 /// The page frame number of DRAM's first page.
 pub const FIRST_FRAME: u64 = 0x80000;
-
-/// How many bytes a page has.
-const PAGE_BYTES: u64 = 4096;
-
-/// How many words of 64 bits a page has.
-const PAGE_WORDS: u64 = 512;
 
 /// The page in which a physical address lies; None exactly outside DRAM.
 pub fn page_of(config: &Config, address: u64) -> Option<u16>
@@ -58,7 +52,7 @@ pub fn word_start(config: &Config, word: u64) -> u64
     requires { word < word_total config.now }
     ensures { result ≡ word_start word }
 {
-    let words = PAGE_WORDS * u64::from(config.total_pages());
+    let words = PAGE_WORDS as u64 * u64::from(config.total_pages());
     prove!(word < words);
     DRAM_START + 8 * word
 }
@@ -67,14 +61,14 @@ pub fn word_start(config: &Config, word: u64) -> u64
 pub fn first_word(page: u16) -> u64
     ensures { result ≡ first_word page }
 {
-    PAGE_WORDS * u64::from(page)
+    PAGE_WORDS as u64 * u64::from(page)
 }
 
 /// The page of a word.
 pub fn page_of_word(word: u64) -> u64
     ensures { result ≡ page_of_word word }
 {
-    word / PAGE_WORDS
+    word / PAGE_WORDS as u64
 }
 
 /// The page frame number of a page.

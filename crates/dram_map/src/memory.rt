@@ -2,15 +2,12 @@
 
 ghost use Rattle.std.specs.Prelude.{◌≡◌, ◌+◌, ◌*◌, ◌≤◌, ◌<◌, length, IfOk};
 ghost use Rattle.mon_types.specs.Shape.{page_total, region_of_page};
-ghost use Rattle.dram_map.specs.Addresses.{word_total};
+ghost use Rattle.dram_map.specs.Addresses.{page_words, first_word, word_total};
 ghost use Rattle.dram_map.specs.Words.{word_at, word_put, zero_words, words_of_page, page_copied, page_cleared, pages_cleared, region_cleared};
 
-use mon_types::{Config, Items};
+use mon_types::{Config, Items, PAGE_WORDS};
 use std::alloc::{AllocError, Global};
 use std::marker::Model;
-
-/// How many words of 64 bits a page has.
-const PAGE_WORDS: usize = 512;
 
 /// The words of DRAM, page after page. Contracts see the list of the words.
 #[derive(Debug, Drop)]
@@ -46,8 +43,8 @@ impl Memory {
     }
 
     /// The words of a page.
-    pub fn page(&self, page: u16) -> &[u64; 512]
-        requires { 512 * page + 512 ≤ length self.now }
+    pub fn page(&self, page: u16) -> &[u64; PAGE_WORDS]
+        requires { first_word page + page_words ≤ length self.now }
         ensures { result.now ≡ words_of_page self.now page }
     {
         let begin = PAGE_WORDS * usize::from(page);
@@ -67,8 +64,8 @@ impl Memory {
 
     /// Stores the words of page `src` in a page.
     pub fn copy_page(&mut self, src: u16, page: u16)
-        requires src { 512 * src + 512 ≤ length self.old }
-        requires page { 512 * page + 512 ≤ length self.old }
+        requires src { first_word src + page_words ≤ length self.old }
+        requires page { first_word page + page_words ≤ length self.old }
         ensures { self.new ≡ page_copied self.old src page }
     {
         let begin = PAGE_WORDS * usize::from(src);
@@ -77,7 +74,7 @@ impl Memory {
     }
 
     fn clear_page(&mut self, page: u16)
-        requires { 512 * page + 512 ≤ length self.old }
+        requires { first_word page + page_words ≤ length self.old }
         ensures cleared { self.new ≡ page_cleared self.old page }
         ensures size { length self.new ≡ length self.old }
     {

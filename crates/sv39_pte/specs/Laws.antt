@@ -1,5 +1,5 @@
 -- Laws of the ptes that the monitor writes.
-use Rattle.std.specs.Prelude.{◌≡◌, ℕ, ◌<◌, ◌≤◌, Bool, true, if◌then◌else◌, Some}
+use Rattle.std.specs.Prelude.{◌≡◌, ℕ, ◌^◌, ◌<◌, ◌≤◌, Bool, true, if◌then◌else◌, Some}
 use Rattle.mon_types.specs.Bits.{has_bit}
 use Rattle.mon_types.specs.Shape.{Shape, is_shape, page_total}
 use Rattle.mon_types.specs.declared.thread.Mode.{Mode}
@@ -37,8 +37,8 @@ abbrev pub LeafIsLeaf : Type 0
 LeafIsLeaf = (page perms enclave thread : ℕ) (access : Access) → page < 2 ^ 16 → are_perms perms ≡ true
     → classified (leaf_pte page perms) 0 access (modes.Inside enclave thread)
     ≡ (if perms_allow perms access
-        then kinds.Leaf (frame_of page) (has_bit perms 0) (has_bit perms 1) (has_bit perms 2)
-        else kinds.Fault)
+    then kinds.Leaf (frame_of page) (has_bit perms 0) (has_bit perms 1) (has_bit perms 2)
+    else kinds.Fault)
 
 -- for the OS it is a fault
 abbrev pub LeafIsNotTheOs : Type 0

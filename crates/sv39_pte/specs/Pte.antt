@@ -61,7 +61,10 @@ is_pointer pte = not (is_readable pte) && not (is_executable pte)
 
 -- a pointer with A, D or U set, or one at level 0: a fault
 abbrev pub is_bad_pointer : ℕ → ℕ → Bool
-is_bad_pointer pte level = is_accessed pte || is_dirty pte || is_user pte || (level == 0)
+is_bad_pointer pte level = is_accessed pte || is_dirty pte || is_user pte || level == 0
+
+abbrev pub pointer_kind : ℕ → ℕ → Kind
+pointer_kind pte level = if is_bad_pointer pte level then kinds.Fault else kinds.Pointer (ppn_of pte)
 
 -- 3. a leaf of the other mode: a fault in OS mode, which is S, where U = 1, and in an enclave, which runs in
 -- U mode, where U = 0
@@ -94,7 +97,7 @@ leaf_kind pte = kinds.Leaf (ppn_of pte) (is_readable pte) (is_writable pte && is
 abbrev pub classified : ℕ → ℕ → Access → Mode → Kind
 classified pte level access mode =
     if is_invalid pte then kinds.Fault
-    else if is_pointer pte then (if is_bad_pointer pte level then kinds.Fault else kinds.Pointer (ppn_of pte))
+    else if is_pointer pte then pointer_kind pte level
     else if is_of_other_mode pte mode then kinds.Fault
     else if is_forbidden pte access then kinds.Fault
     else if is_misaligned pte level then kinds.Fault
