@@ -7,6 +7,7 @@ use Rattle.mon_types.specs.declared.thread.Mode.TheVariants as modes
 use Rattle.dram_map.specs.Addresses.{frame_of}
 use Rattle.sv39_pte.specs.declared.pte.Access.{Access}
 use Rattle.sv39_pte.specs.declared.pte.Access.TheVariants as accesses
+use Rattle.sv39_pte.specs.declared.pte.Kind.{Kind}
 use Rattle.sv39_pte.specs.declared.pte.Kind.TheVariants as kinds
 use Rattle.sv39_pte.specs.Pte.{ppn_of, classified}
 use Rattle.sv39_pte.specs.Tables.{table_led_to, pointer_pte, leaf_pte, are_perms}
@@ -31,14 +32,17 @@ perms_allow perms accesses.Fetch = has_bit perms 2
 perms_allow perms accesses.Load = has_bit perms 0
 perms_allow perms accesses.Store = has_bit perms 1
 
--- the monitor's pte of a leaf is a leaf at level 0 in an enclave, for each access that its permissions allow,
--- and a fault for the others
+-- what a leaf of these permissions is for an access of an enclave: a fault where they do not allow it
+abbrev pub allowed : ℕ → ℕ → Access → Kind
+allowed page perms access =
+    if perms_allow perms access
+    then kinds.Leaf (frame_of page) (has_bit perms 0) (has_bit perms 1) (has_bit perms 2)
+    else kinds.Fault
+
+-- the monitor's pte of a leaf is that at level 0 in an enclave
 abbrev pub LeafIsLeaf : Type 0
 LeafIsLeaf = (page perms enclave thread : ℕ) (access : Access) → page < 2 ^ 16 → are_perms perms ≡ true
-    → classified (leaf_pte page perms) 0 access (modes.Inside enclave thread)
-    ≡ (if perms_allow perms access
-    then kinds.Leaf (frame_of page) (has_bit perms 0) (has_bit perms 1) (has_bit perms 2)
-    else kinds.Fault)
+    → classified (leaf_pte page perms) 0 access (modes.Inside enclave thread) ≡ allowed page perms access
 
 -- for the OS it is a fault
 abbrev pub LeafIsNotTheOs : Type 0
