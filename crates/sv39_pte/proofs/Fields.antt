@@ -1,6 +1,8 @@
 -- What a pte is, by its fields; and the fields of the ptes that the monitor writes.
 use Rattle.std.proofs.Common.{◌≡◌, ◌⊎◌, inl, inr, ℕ, ◌+◌, ◌*◌, ◌/◌, ◌%◌, ◌^◌, ◌<◌, ◌≤◌, Bool, true, false, cond, not, ◌&&◌, ◌||◌, nat_eq, nat_lt, refl, sym, ap, subst, ◌∙◌, arith}
 use Rattle.std.proofs.lemmas.Bool.Decides.{nat_tests}
+use Rattle.mon_types.specs.Shape.{Shape, page_total}
+use Rattle.mon_types.specs.LimitLaws.{few_pages}
 use Rattle.mon_types.specs.Bits.{has_bit}
 use Rattle.mon_types.specs.declared.thread.Mode.{Mode}
 use Rattle.mon_types.specs.declared.thread.Mode.TheVariants as modes
@@ -10,8 +12,8 @@ use Rattle.sv39_pte.specs.declared.pte.Access.TheVariants as accesses
 use Rattle.sv39_pte.specs.declared.pte.Kind.{Kind}
 use Rattle.sv39_pte.specs.declared.pte.Kind.TheVariants as kinds
 use Rattle.sv39_pte.specs.Pte.{ppn_of, high_bits, classified}
-use Rattle.sv39_pte.specs.Tables.{pointer_pte, leaf_pte, are_perms}
-use Rattle.sv39_pte.specs.Laws.{PointerIsPointer, perms_allow, LeafHasFrame, allowed, LeafIsLeaf, LeafIsNotTheOs}
+use Rattle.sv39_pte.specs.Tables.{leads_to_table, page_led_to, pointer_pte, leaf_pte, are_perms}
+use Rattle.sv39_pte.specs.Laws.{PointerLeads, PointerIsPointer, LeafHasFrame, allowed, LeafIsLeaf, LeafIsNotTheOs}
 
 -- ---- by fields
 
@@ -88,6 +90,21 @@ pointer_is_pointer page level access mode few above below =
     no_leaf : (n : ℕ) → 1 ≤ n → nat_eq n 0 ≡ false
     no_leaf n h = grind (arith, nat_tests)
 
+-- it leads to its page
+pub leads-pointer_pte : (shape : Shape) (page : ℕ) → page < page_total shape → page_total shape ≤ 1024 → leads_to_table shape (pointer_pte page) ≡ true
+leads-pointer_pte shape page h few =
+    let e = frame_in (frame_of page) 1 (omega arith) (omega arith) in
+    rw e (grind (arith, nat_tests))
+
+pub page_led_to-pointer_pte : (page : ℕ) → page < 2 ^ 16 → page_led_to (pointer_pte page) ≡ page
+page_led_to-pointer_pte page few =
+    let e = frame_in (frame_of page) 1 (frame_fits page few) (omega arith) in
+    rw e (omega arith)
+
+pub pointer_leads : PointerLeads
+pointer_leads shape page is h =
+    (leads-pointer_pte shape page h (few_pages shape is), page_led_to-pointer_pte page (omega (arith, few_pages shape is)))
+
 -- the pte of a leaf is its frame with ten bits below
 low_of : (page perms : ℕ) → leaf_pte page perms ≡ frame_of page * 2 ^ 10 + (0xD1 + 2 * perms)
 low_of page perms = omega arith
@@ -118,31 +135,31 @@ at_leaf page perms access mode few small =
 pub leaf_is_leaf : LeafIsLeaf
 leaf_is_leaf page perms enclave thread accesses.Fetch few h =
     by_perms (λ (p : ℕ). classified (leaf_pte page p) 0 accesses.Fetch (modes.Inside enclave thread) ≡ allowed page p accesses.Fetch) perms h
-        (at_leaf page 1 accesses.Fetch (modes.Inside enclave thread) few (omega arith))
-        (at_leaf page 3 accesses.Fetch (modes.Inside enclave thread) few (omega arith))
-        (at_leaf page 4 accesses.Fetch (modes.Inside enclave thread) few (omega arith))
-        (at_leaf page 5 accesses.Fetch (modes.Inside enclave thread) few (omega arith))
-        (at_leaf page 7 accesses.Fetch (modes.Inside enclave thread) few (omega arith))
+    (at_leaf page 1 accesses.Fetch (modes.Inside enclave thread) few (omega arith))
+    (at_leaf page 3 accesses.Fetch (modes.Inside enclave thread) few (omega arith))
+    (at_leaf page 4 accesses.Fetch (modes.Inside enclave thread) few (omega arith))
+    (at_leaf page 5 accesses.Fetch (modes.Inside enclave thread) few (omega arith))
+    (at_leaf page 7 accesses.Fetch (modes.Inside enclave thread) few (omega arith))
 leaf_is_leaf page perms enclave thread accesses.Load few h =
     by_perms (λ (p : ℕ). classified (leaf_pte page p) 0 accesses.Load (modes.Inside enclave thread) ≡ allowed page p accesses.Load) perms h
-        (at_leaf page 1 accesses.Load (modes.Inside enclave thread) few (omega arith))
-        (at_leaf page 3 accesses.Load (modes.Inside enclave thread) few (omega arith))
-        (at_leaf page 4 accesses.Load (modes.Inside enclave thread) few (omega arith))
-        (at_leaf page 5 accesses.Load (modes.Inside enclave thread) few (omega arith))
-        (at_leaf page 7 accesses.Load (modes.Inside enclave thread) few (omega arith))
+    (at_leaf page 1 accesses.Load (modes.Inside enclave thread) few (omega arith))
+    (at_leaf page 3 accesses.Load (modes.Inside enclave thread) few (omega arith))
+    (at_leaf page 4 accesses.Load (modes.Inside enclave thread) few (omega arith))
+    (at_leaf page 5 accesses.Load (modes.Inside enclave thread) few (omega arith))
+    (at_leaf page 7 accesses.Load (modes.Inside enclave thread) few (omega arith))
 leaf_is_leaf page perms enclave thread accesses.Store few h =
     by_perms (λ (p : ℕ). classified (leaf_pte page p) 0 accesses.Store (modes.Inside enclave thread) ≡ allowed page p accesses.Store) perms h
-        (at_leaf page 1 accesses.Store (modes.Inside enclave thread) few (omega arith))
-        (at_leaf page 3 accesses.Store (modes.Inside enclave thread) few (omega arith))
-        (at_leaf page 4 accesses.Store (modes.Inside enclave thread) few (omega arith))
-        (at_leaf page 5 accesses.Store (modes.Inside enclave thread) few (omega arith))
-        (at_leaf page 7 accesses.Store (modes.Inside enclave thread) few (omega arith))
+    (at_leaf page 1 accesses.Store (modes.Inside enclave thread) few (omega arith))
+    (at_leaf page 3 accesses.Store (modes.Inside enclave thread) few (omega arith))
+    (at_leaf page 4 accesses.Store (modes.Inside enclave thread) few (omega arith))
+    (at_leaf page 5 accesses.Store (modes.Inside enclave thread) few (omega arith))
+    (at_leaf page 7 accesses.Store (modes.Inside enclave thread) few (omega arith))
 
 pub leaf_is_not_the_os : LeafIsNotTheOs
 leaf_is_not_the_os page perms access few h =
     by_perms (λ (p : ℕ). classified (leaf_pte page p) 0 access modes.Os ≡ kinds.Fault) perms h
-        (at_leaf page 1 access modes.Os few (omega arith))
-        (at_leaf page 3 access modes.Os few (omega arith))
-        (at_leaf page 4 access modes.Os few (omega arith))
-        (at_leaf page 5 access modes.Os few (omega arith))
-        (at_leaf page 7 access modes.Os few (omega arith))
+    (at_leaf page 1 access modes.Os few (omega arith))
+    (at_leaf page 3 access modes.Os few (omega arith))
+    (at_leaf page 4 access modes.Os few (omega arith))
+    (at_leaf page 5 access modes.Os few (omega arith))
+    (at_leaf page 7 access modes.Os few (omega arith))

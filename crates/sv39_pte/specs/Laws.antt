@@ -1,5 +1,5 @@
 -- Laws of the ptes that the monitor writes.
-use Rattle.std.specs.Prelude.{◌≡◌, ℕ, ◌^◌, ◌<◌, ◌≤◌, Bool, true, if◌then◌else◌, Some}
+use Rattle.std.specs.Prelude.{◌≡◌, ℕ, ◌^◌, ◌<◌, ◌≤◌, Bool, true, if◌then◌else◌}
 use Rattle.mon_types.specs.Bits.{has_bit}
 use Rattle.mon_types.specs.Shape.{Shape, is_shape, page_total}
 use Rattle.mon_types.specs.declared.thread.Mode.{Mode}
@@ -10,12 +10,12 @@ use Rattle.sv39_pte.specs.declared.pte.Access.TheVariants as accesses
 use Rattle.sv39_pte.specs.declared.pte.Kind.{Kind}
 use Rattle.sv39_pte.specs.declared.pte.Kind.TheVariants as kinds
 use Rattle.sv39_pte.specs.Pte.{ppn_of, classified}
-use Rattle.sv39_pte.specs.Tables.{table_led_to, pointer_pte, leaf_pte, are_perms}
+use Rattle.sv39_pte.specs.Tables.{leads_to_table, page_led_to, pointer_pte, leaf_pte, are_perms}
 
 -- the monitor's pte of a table leads to the table's page
 abbrev pub PointerLeads : Type 0
 PointerLeads = (shape : Shape) (page : ℕ) → is_shape shape ≡ true → page < page_total shape
-    → table_led_to shape (pointer_pte page) ≡ Some page
+    → (leads_to_table shape (pointer_pte page) ≡ true) × (page_led_to (pointer_pte page) ≡ page)
 
 -- the frame of the monitor's pte of a leaf is the page's
 abbrev pub LeafHasFrame : Type 0

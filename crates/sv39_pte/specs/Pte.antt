@@ -2,7 +2,7 @@
 -- System" and "Virtual Address Translation Process": its fields, and the six rules that say what it is at a
 -- level. Every fault is a page fault. That a set bit among 63 to 54, or A, D or U in a pointer, is a fault,
 -- and that A = 0, or D = 0 on a store, is one, is this project's choice. SUM and MXR are 0.
-use Rattle.std.specs.Prelude.{ℕ, ◌*◌, ◌/◌, ◌%◌, ◌^◌, Bool, true, false, ◌==◌, ◌&&◌, ◌||◌, not, nat_lt, ⊤, ◌<◌, if◌then◌else◌}
+use Rattle.std.specs.Prelude.{ℕ, ◌*◌, ◌/◌, ◌%◌, ◌^◌, Bool, ◌==◌, ◌&&◌, ◌||◌, not, nat_lt, ⊤, ◌<◌, if◌then◌else◌}
 use Rattle.mon_types.specs.Bits.{has_bit}
 use Rattle.mon_types.specs.declared.thread.Mode.{Mode}
 use Rattle.mon_types.specs.declared.thread.Mode.TheVariants as modes

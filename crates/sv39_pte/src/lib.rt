@@ -10,4 +10,4 @@ mod tests;
 
 pub use laws::{leaf_pte_is_a_leaf, pointer_pte_is_a_pointer, written_ptes_lead_to_their_pages};
 pub use pte::{Access, Kind, classify, ppn_of};
-pub use table::{leaf_pte, pointer_pte, pte_place, table_led_to};
+pub use table::{leads_to_table, leaf_pte, pointer_pte, pte_place, table_led_to};

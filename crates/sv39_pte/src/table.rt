@@ -2,7 +2,7 @@
 
 ghost use Rattle.std.specs.Prelude.{◌≡◌, ◌<◌, ◌≤◌, IfSome};
 ghost use Rattle.mon_types.specs.Shape.{page_total};
-ghost use Rattle.sv39_pte.specs.Tables.{pte_place, table_led_to, pointer_pte, leaf_pte};
+ghost use Rattle.sv39_pte.specs.Tables.{pte_place, leads_to_table, table_led_to, pointer_pte, leaf_pte};
 
 use crate::pte::ppn_of;
 use dram_map::{first_word, frame_of, page_of_frame};
@@ -24,6 +24,13 @@ pub fn table_led_to(config: &Config, pte: u64) -> Option<u16>
     ensures within { IfSome result (λ page. page < page_total config.now) }
 {
     page_of_frame(config, ppn_of(pte))
+}
+
+/// Whether a pte leads to a page of DRAM.
+pub fn leads_to_table(config: &Config, pte: u64) -> bool
+    ensures { result ≡ leads_to_table config.now pte }
+{
+    table_led_to(config, pte).is_some()
 }
 
 /// The pte that leads to the table on a page.

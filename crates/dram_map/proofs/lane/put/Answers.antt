@@ -1,5 +1,5 @@
-use Rattle.std.proofs.Common.{rules, ◌≡◌, ℕ, ◌+◌, ◌-◌, ◌*◌, ◌<◌, ◌≤◌, ◌^◌, ◌%◌, ◌∙◌, ap, sym, subst, arith}
-use Rattle.dram_map.specs.Lanes.{taken, low_bytes, with_lane, PutsBytes}
+use Rattle.std.proofs.Common.{rules, sym, subst, arith}
+use Rattle.dram_map.specs.Lanes.{PutsBytes}
 use Rattle.dram_map.proofs.Lanes.{lane_within, lane_begins, scale_is, exchanged, with_lane_below, placed_below, puts_bytes}
 use Rattle.dram_map.proofs.lane.put.Goals as goal
 

@@ -1,5 +1,3 @@
-use Rattle.std.proofs.Common.{◌≡◌, ℕ, subst, sym}
-use Rattle.dram_map.specs.Lanes.{TakesBytes}
 use Rattle.dram_map.proofs.Lanes.{takes_bytes}
 use Rattle.dram_map.proofs.lane.take.Goals as goal
 
