@@ -1,5 +1,5 @@
 -- The records of enclave slots come back from the words of their rows.
-use Rattle.std.proofs.Common.{◌≡◌, ◌≢◌, ◌<◌, ◌≤◌, ◌+◌, ◌-◌, ◌%◌, ◌^◌, ◌∙◌, ℕ, suc, Bool, true, false, Option, Some, None, List, [], ◌∷◌, length, ap, sym, refl, get_or, take, drop, arith}
+use Rattle.std.proofs.Common.{◌≡◌, ◌≢◌, ◌<◌, ◌+◌, ◌-◌, ◌%◌, ◌^◌, ◌∙◌, ℕ, Bool, true, false, Option, Some, None, List, [], ◌∷◌, length, ap, sym, refl, get_or, take, drop, arith}
 use Rattle.std.specs.Prelude.{◌==◌, if◌then◌else◌, nat_lt}
 use Rattle.std.proofs.lemmas.Bool.Decides.{nat_tests}
 use Rattle.std.proofs.Math.Nat.{mod-eq_of_lt}
@@ -10,7 +10,7 @@ use Rattle.mon_types.specs.declared.enclave.Stage.TheVariants as stages
 use Rattle.mon_types.specs.declared.enclave.Mailbox.{Mailbox}
 use Rattle.mon_types.specs.declared.enclave.Mailbox.TheVariants as mailboxes
 use Rattle.mon_types.specs.declared.enclave.Enclave.{Enclave}
-use Rattle.mon_types.specs.Shape.{Shape, page_total}
+use Rattle.mon_types.specs.Shape.{Shape}
 use Rattle.mon_types.specs.Words.{AreWords, fitting}
 use Rattle.mon_types.specs.Enclaves.{IsEnclave, IsMailbox, IsRoot, empty_enclave, enclave_row, mailbox_row, mail_rows, stage_code, root_code, stage_from, root_from, mailbox_by, mailbox_parts, enclave_parts, enclave_from, root_within, enclave_within}
 use Rattle.mon_types.specs.RowLaws.{HasRootWithin}

@@ -1,15 +1,13 @@
 -- Regions come back from the two words of their rows.
-use Rattle.std.proofs.Common.{◌≡◌, ◌≢◌, ◌<◌, ◌≤◌, ◌+◌, ◌-◌, ◌*◌, ◌/◌, ◌%◌, ◌^◌, ◌∙◌, ℕ, suc, Bool, true, false, List, [], ◌∷◌, ap, sym, refl, subst, arith}
-use Rattle.std.specs.Prelude.{◌==◌, if◌then◌else◌, nat_lt, Some, None, Option, MatchOption, IfSome, slice_index}
-use Rattle.std.proofs.lemmas.Bool.{eqb-true, eq-eqb, cases_eq}
+use Rattle.std.proofs.Common.{◌≡◌, ◌<◌, ◌+◌, ◌-◌, ◌*◌, ◌/◌, ◌%◌, ◌^◌, ◌∙◌, ℕ, Bool, true, false, List, [], ◌∷◌, ap, sym, refl, subst, arith}
+use Rattle.std.specs.Prelude.{◌==◌, if◌then◌else◌, nat_lt, slice_index}
 use Rattle.std.proofs.lemmas.Bool.Decides.{nat_tests}
 use Rattle.mon_types.specs.declared.region.Owner.{Owner}
 use Rattle.mon_types.specs.declared.region.Owner.TheVariants as owners
 use Rattle.mon_types.specs.declared.region.Region.{Region}
 use Rattle.mon_types.specs.declared.region.Region.TheVariants as regions
-use Rattle.mon_types.specs.Words.{fitting, same_words}
 use Rattle.mon_types.specs.Owns.{IsOwner, IsRegion, IsRegionRow, RegionNamesSlot, owner_code, own_word, at_word, region_row, owner_from, offered_to, region_by, region_parts, region_from}
-use Rattle.mon_types.proofs.Rows.{kept_where_same, none_where_other, row_back, kept_or_none, fitting_is, fitting_less}
+use Rattle.mon_types.proofs.Rows.{none_where_other, row_back, kept_or_none, fitting_is, fitting_less}
 
 owner_back : (o : Owner) → IsOwner o → owner_from (owner_code o) ≡ o
 unfolding owner_from

@@ -80,7 +80,8 @@ region_by state owner since at =
 unfoldable pub region_parts : List ℕ → Region
 region_parts words =
     let own = slice_index words 0 in
-    region_by (own % 4) (owner_from (own / 4 % 16)) (fitting (2 ^ 32) (own / 64)) (fitting (2 ^ 32) (slice_index words 1))
+    let at = slice_index words 1 in
+    region_by (own % 4) (owner_from (own / 4 % 16)) (fitting (2 ^ 32) (own / 64)) (fitting (2 ^ 32) at)
 
 -- the record whose row these words are; Free where they are no region's row
 unfoldable pub region_from : List ℕ → Region

@@ -21,9 +21,9 @@ pub record RowsReadBack : Type 0 where
 
 -- the rows of such records are as long as their objects' rows
 pub record RowsAreWide : Type 0 where
-  pub regions : (r : ℕ) (record_of : Region) → length (region_row record_of) ≡ width (objects.Region r)
-  pub enclaves : (e : ℕ) (record_of : Enclave) → IsEnclave record_of → length (enclave_row record_of) ≡ width (objects.Enclave e)
-  pub threads : (t : ℕ) (record_of : Thread) → IsThread record_of → length (thread_row record_of) ≡ width (objects.Thread t)
+  pub regions : (r : ℕ) (region : Region) → length (region_row region) ≡ width (objects.Region r)
+  pub enclaves : (e : ℕ) (x : Enclave) → IsEnclave x → length (enclave_row x) ≡ width (objects.Enclave e)
+  pub threads : (t : ℕ) (x : Thread) → IsThread x → length (thread_row x) ≡ width (objects.Thread t)
   pub cells : (c flushed : ℕ) → length (cell_row flushed) ≡ width (objects.Cell c)
 
 -- so many words of 64 bits give a record that is in range, whatever they are

@@ -1,5 +1,5 @@
 -- Words whose parts have them as their row are a region's; others are no region's.
-use Rattle.std.proofs.Common.{◌≡◌, ◌∙◌, Some, ap}
+use Rattle.std.proofs.Common.{◌≡◌, ◌∙◌, Some, ap, sym}
 use Rattle.mon_types.specs.Owns.{own_word, at_word}
 use Rattle.mon_types.proofs.RegionRows.{parts_named, found, read_found, one_found, none_found, read_none}
 use Rattle.mon_types.proofs.region.unpack_own.Goals.{else-pack_own-word-via-then-pack_own-word+else-pack_at-at, else-pack_own-word-via-else-pack_own-word}
@@ -29,4 +29,5 @@ pub returns-else-pack_own-word-clause-only : goal.returns-else-pack_own-word-cla
 returns-else-pack_own-word-clause-only c other h = absurd (none_found c.args.word c.args.at _ other c.candidate-region.ensures (differs c) h)
 
 pub returns-else-pack_own-word-clause-read : goal.returns-else-pack_own-word-clause-read
-returns-else-pack_own-word-clause-read c = read_none c.args.word c.args.at c.candidate-region.result c.candidate-region.ensures (differs c)
+returns-else-pack_own-word-clause-read c =
+    sym (read_none c.args.word c.args.at c.candidate-region.result c.candidate-region.ensures (differs c))
