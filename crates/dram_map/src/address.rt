@@ -1,6 +1,6 @@
 //! Physical addresses, words and frames of DRAM.
 
-ghost use Rattle.std.specs.Prelude.{◌≡◌, ℕ, ◌<◌, Some, IfSome};
+ghost use Rattle.std.specs.Prelude.{◌≡◌, ℕ, ◌<◌, nat_lt, if◌then◌else◌, Some, None, IfSome};
 ghost use Rattle.mon_types.specs.Shape.{page_total};
 ghost use Rattle.dram_map.specs.Addresses.{LiesIn, page_of, page_start, word_total, word_of, word_start, first_word, page_of_word, frame_of, page_of_frame};
 
@@ -12,6 +12,18 @@ pub const DRAM_START: u64 = 0x8000_0000;
 /// The page frame number of DRAM's first page.
 pub const FIRST_FRAME: u64 = 0x80000;
 
+/// The number as that of a page; None where the machine has no such page.
+fn page_numbered(config: &Config, page: u64) -> Option<u16>
+    ensures page { result ≡ (if nat_lt page (page_total config.now) then Some page else None) }
+    ensures within { IfSome result (λ page. page < page_total config.now) }
+{
+    if page < u64::from(config.total_pages()) {
+        Some(page as u16)
+    } else {
+        None
+    }
+}
+
 /// The page in which a physical address lies; None exactly outside DRAM.
 pub fn page_of(config: &Config, address: u64) -> Option<u16>
     ensures page { result ≡ page_of config.now address }
@@ -19,12 +31,7 @@ pub fn page_of(config: &Config, address: u64) -> Option<u16>
     ensures within { IfSome result (λ page. page < page_total config.now) }
     ensures only { (page : ℕ) → page < page_total config.now → LiesIn page address → result ≡ Some page }
 {
-    let page = address.checked_sub(DRAM_START)? / PAGE_BYTES;
-    if page < u64::from(config.total_pages()) {
-        Some(page as u16)
-    } else {
-        None
-    }
+    page_numbered(config, address.checked_sub(DRAM_START)? / PAGE_BYTES)
 }
 
 /// The physical address at which a page begins.
@@ -40,11 +47,8 @@ pub fn word_of(config: &Config, address: u64) -> Option<u64>
     ensures within { IfSome result (λ word. word < word_total config.now) }
 {
     let byte = address.checked_sub(DRAM_START)?;
-    if byte / PAGE_BYTES < u64::from(config.total_pages()) {
-        Some(byte / 8)
-    } else {
-        None
-    }
+    page_numbered(config, byte / PAGE_BYTES)?;
+    Some(byte / 8)
 }
 
 /// The physical address of a word of DRAM.
@@ -83,10 +87,5 @@ pub fn page_of_frame(config: &Config, frame: u64) -> Option<u16>
     ensures page { result ≡ page_of_frame config.now frame }
     ensures within { IfSome result (λ page. page < page_total config.now) }
 {
-    let page = frame.checked_sub(FIRST_FRAME)?;
-    if page < u64::from(config.total_pages()) {
-        Some(page as u16)
-    } else {
-        None
-    }
+    page_numbered(config, frame.checked_sub(FIRST_FRAME)?)
 }

@@ -1,4 +1,4 @@
--- The words that loaded items give decide as the items do.
+-- The ptes that loaded items give decide as the items do.
 use Rattle.std.proofs.Common.{◌≡◌, ℕ, ◌+◌, ◌*◌, ◌%◌, ◌^◌, ◌<◌, ◌≤◌, Bool, true, false, cond, not, ◌&&◌, ◌||◌, nat_eq, List, [], ◌∷◌, Option, Some, None, is_some, IfSome, refl, ap, ◌∙◌, arith}
 use Rattle.std.specs.List.{find, list_any, AllByRecursion}
 use Rattle.std.proofs.Math.Nat.{mod-eq_of_lt}
@@ -12,12 +12,14 @@ use Rattle.mon_types.specs.declared.reply.Reply.TheVariants as replies
 use Rattle.mon_model.specs.Loading.{StandInPages, is_there_for, is_table_1, is_table_0, is_leaf, has_table_1, has_table_0, has_place_for_table, has_place_for_leaf, takes_page, reserves_page}
 use Rattle.mon_types.specs.Replies.{done_if}
 use Rattle.mon_model.specs.EnclaveCalls.{is_os_owned, table_fits, leaf_fits, load_table_reply, load_page_reply, reserve_reply}
-use Rattle.mon_enclaves.specs.Entries.{first_frame, frame_of, leads_to_table, leaf_path, table_path, words_fit, table_reply, page_reply, reserved_reply}
-use Rattle.mon_enclaves.specs.FromItems.{table_1_for, table_0_for, leaf_for, table_entry, leaf_entry, below, table_words, leaf_words}
+use Rattle.sv39_pte.specs.Tables.{leads_to_table}
+use Rattle.sv39_pte.proofs.Fields.{leads-pointer_pte}
+use Rattle.mon_enclaves.specs.ByWords.{leaf_path, table_path, words_fit, table_reply, page_reply, reserved_reply}
+use Rattle.mon_enclaves.specs.FromItems.{table_1_for, table_0_for, leaf_for, pte_of_table, pte_of_leaf, below, table_1_words, table_0_words, table_words, leaf_words}
 use Rattle.mon_types.specs.LimitLaws.{few_pages}
 
 -- something is found exactly where a test passes
-is_some-find : {X : Type 0} (p : X → Bool) (xs : List X) → is_some (find p xs) ≡ list_any p xs
+pub is_some-find : {X : Type 0} (p : X → Bool) (xs : List X) → is_some (find p xs) ≡ list_any p xs
 is_some-find p [] = refl
 is_some-find p (x ∷ xs) = by (p x) (is_some-find p xs)
   where
@@ -26,7 +28,7 @@ is_some-find p (x ∷ xs) = by (p x) (is_some-find p xs)
     by false e = e
 
 -- what is found has what each element has
-IfSome-find : {X : Type 0} (P : X → Type 0) (p : X → Bool) (xs : List X) → AllByRecursion P xs → IfSome (find p xs) P
+pub IfSome-find : {X : Type 0} (P : X → Type 0) (p : X → Bool) (xs : List X) → AllByRecursion P xs → IfSome (find p xs) P
 IfSome-find P p [] h = tt
 IfSome-find P p (x ∷ xs) h = by (p x) (IfSome-find P p xs h.1)
   where
@@ -34,49 +36,41 @@ IfSome-find P p (x ∷ xs) h = by (p x) (IfSome-find P p xs h.1)
     by true e = h.0
     by false e = e
 
--- an entry with the frame of page q, and bits below
-frame_of-entry : (q low : ℕ) → q ≤ 1024 → low < 1024 → frame_of ((first_frame + q) * 1024 + low) ≡ first_frame + q
-frame_of-entry q low few small = ap (λ (n : ℕ). n % 2 ^ 44) (div-mul-add (first_frame + q) 1024 low small) ∙ mod-eq_of_lt (omega arith)
-
-leads-entry : (shape : Shape) (q low : ℕ) → q < page_total shape → page_total shape ≤ 1024 → low < 1024 → leads_to_table shape ((first_frame + q) * 1024 + low) ≡ true
-leads-entry shape q low h few small =
-    let e = frame_of-entry q low (omega arith) small in
-    rw e (grind (arith, nat_tests))
-
 -- the page of what is found
-abbrev InPages : Shape → Option Loaded → Type 0
+abbrev pub InPages : Shape → Option Loaded → Type 0
 InPages shape o = IfSome o (λ item. item.page < page_total shape)
 
-leads-table_entry : (shape : Shape) (o : Option Loaded) → page_total shape ≤ 1024 → InPages shape o → leads_to_table shape (table_entry o) ≡ is_some o
-leads-table_entry shape None few h = refl
-leads-table_entry shape (Some item) few h = leads-entry shape item.page 1 h few (omega arith)
+-- the pte of a table leads to one exactly where there is a table
+pub leads-pte_of_table : (shape : Shape) (o : Option Loaded) → page_total shape ≤ 1024 → InPages shape o → leads_to_table shape (pte_of_table o) ≡ is_some o
+leads-pte_of_table shape None few h = refl
+leads-pte_of_table shape (Some item) few h = leads-pointer_pte shape item.page h few
 
-is_zero-table_entry : (o : Option Loaded) → nat_eq (table_entry o) 0 ≡ not (is_some o)
-is_zero-table_entry None = refl
-is_zero-table_entry (Some item) = grind (arith, nat_tests)
+is_zero-pte_of_table : (o : Option Loaded) → nat_eq (pte_of_table o) 0 ≡ not (is_some o)
+is_zero-pte_of_table None = refl
+is_zero-pte_of_table (Some item) = grind (arith, nat_tests)
 
-is_zero-leaf_entry : (o : Option Loaded) (perms : ℕ) → nat_eq (leaf_entry o perms) 0 ≡ not (is_some o)
-is_zero-leaf_entry None perms = refl
-is_zero-leaf_entry (Some item) perms = grind (arith, nat_tests)
+is_zero-pte_of_leaf : (o : Option Loaded) (perms : ℕ) → nat_eq (pte_of_leaf o perms) 0 ≡ not (is_some o)
+is_zero-pte_of_leaf None perms = refl
+is_zero-pte_of_leaf (Some item) perms = grind (arith, nat_tests)
 
 -- the words of a leaf's path fit where both tables are there and no leaf is
-leaf_fit : (shape : Shape) (a b c : Option Loaded) (perms : ℕ) → page_total shape ≤ 1024 → InPages shape a → InPages shape b → words_fit shape leaf_path (table_entry a ∷ below a (table_entry b ∷ below b (leaf_entry c perms ∷ []))) ≡ (is_some a && is_some b && not (is_some c))
-leaf_fit shape None b c perms few ina inb = leads-table_entry shape None few ina
-leaf_fit shape (Some t) None c perms few ina inb = leads-table_entry shape None few inb
-leaf_fit shape (Some t) (Some u) c perms few ina inb = is_zero-leaf_entry c perms
+leaf_fit : (shape : Shape) (a b c : Option Loaded) (perms : ℕ) → page_total shape ≤ 1024 → InPages shape a → InPages shape b → words_fit shape leaf_path (pte_of_table a ∷ below a (pte_of_table b ∷ below b (pte_of_leaf c perms ∷ []))) ≡ (is_some a && is_some b && not (is_some c))
+leaf_fit shape None b c perms few ina inb = leads-pte_of_table shape None few ina
+leaf_fit shape (Some t) None c perms few ina inb = leads-pte_of_table shape None few inb
+leaf_fit shape (Some t) (Some u) c perms few ina inb = is_zero-pte_of_leaf c perms
 
 -- the same of a table of level 0
-table_fit : (shape : Shape) (a b : Option Loaded) → page_total shape ≤ 1024 → InPages shape a → words_fit shape 2 (table_entry a ∷ below a (table_entry b ∷ [])) ≡ (is_some a && not (is_some b))
-table_fit shape None b few ina = leads-table_entry shape None few ina
-table_fit shape (Some t) b few ina = is_zero-table_entry b
+table_fit : (shape : Shape) (a b : Option Loaded) → page_total shape ≤ 1024 → InPages shape a → words_fit shape 2 (pte_of_table a ∷ below a (pte_of_table b ∷ [])) ≡ (is_some a && not (is_some b))
+table_fit shape None b few ina = leads-pte_of_table shape None few ina
+table_fit shape (Some t) b few ina = is_zero-pte_of_table b
 
 -- the words that the items give fit where the items have a place
 table_words-fit : (shape : Shape) (items : List Loaded) (va level : ℕ) → page_total shape ≤ 1024 → StandInPages shape items → words_fit shape (table_path level) (table_words items va level) ≡ (nat_eq level 2 || has_place_for_table items va level)
 table_words-fit shape items va level few h = by (nat_eq level 2) (nat_eq level 1)
   where
-    by : (two one : Bool) → words_fit shape (cond two 0 (cond one 1 2)) (cond two [] (table_entry (table_1_for va items) ∷ cond one [] (below (table_1_for va items) (table_entry (table_0_for va items) ∷ [])))) ≡ (two || cond one (not (has_table_1 va items)) (has_table_1 va items && not (has_table_0 va items)))
+    by : (two one : Bool) → words_fit shape (cond two 0 (cond one 1 2)) (cond two [] (cond one (table_1_words items va) (table_0_words items va))) ≡ (two || cond one (not (has_table_1 va items)) (has_table_1 va items && not (has_table_0 va items)))
     by true one = refl
-    by false true = is_zero-table_entry (table_1_for va items) ∙ ap not (is_some-find _ items)
+    by false true = is_zero-pte_of_table (table_1_for va items) ∙ ap not (is_some-find _ items)
     by false false =
         table_fit shape (table_1_for va items) (table_0_for va items) few (IfSome-find _ _ items h)
         ∙ rw (is_some-find (λ item. is_table_1 item.kind && is_there_for va item) items, is_some-find (λ item. is_table_0 item.kind && is_there_for va item) items)

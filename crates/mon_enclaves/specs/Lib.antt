@@ -1,3 +1,3 @@
-pub mod Entries
+pub mod ByWords
 pub mod FromItems
 pub mod Named

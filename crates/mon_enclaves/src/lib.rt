@@ -8,8 +8,8 @@
 
 mod after;
 mod decide;
-mod entries;
 mod loading;
+mod path;
 #[cfg(test)]
 mod tests;
 

@@ -6,11 +6,10 @@ ghost use Rattle.mon_types.specs.declared.enclave.Loaded.{Loaded};
 ghost use Rattle.mon_types.specs.Bits.{has_bit};
 ghost use Rattle.mon_model.specs.Loading.{StandInPages, is_next_page, in_range};
 ghost use Rattle.mon_model.specs.EnclaveCalls.{table_fits, leaf_fits, is_os_owned, load_table_reply, load_page_reply, reserve_reply};
-ghost use Rattle.mon_enclaves.specs.Entries.{table_reply, page_reply, reserved_reply};
+ghost use Rattle.mon_enclaves.specs.ByWords.{table_reply, page_reply, reserved_reply};
 ghost use Rattle.mon_enclaves.specs.FromItems.{table_words, leaf_words};
 
-use crate::entries::{LEAF_PATH, lets_on, path_of_table};
-
+use crate::path::{LEAF_PATH, last_fits, path_of_table};
 use mon_types::{Config, Enclave, Owner, Region, Reply, Stage};
 
 /// Whether the page lies in a region of the enclave.
@@ -58,14 +57,14 @@ fn has_room_for_leaf(enclave: &Enclave, va: u64) -> bool
     holds_address(enclave, va) && enclave.root.is_some()
 }
 
-/// load_table of a page below N. `entries` are the words that were read so far on va's path, from the
+/// load_table of a page below N. `entries` are the ptes that were read so far on va's path, from the
 /// root down: one for a table of level 1, two for level 0, none for level 2; the last decides.
 ///
 /// InvalidState where the enclave is not Loading, or the page is below the next one or in no region of
 /// the enclave; at level 2 where there is a root; at levels 1 and 0 where va lies outside the
-/// enclave's range, there is no root, the last word is before the path's end and leads to no table, or
-/// is at its end and not 0. Ok where fewer words are given than the path has means that the next word
-/// is to be read. By all the words that loaded items give, the reply is that of these items.
+/// enclave's range, there is no root, the last pte is before the path's end and leads to no table, or
+/// is at its end and not 0. Ok where fewer are given than the path has means that the next
+/// is to be read. By all the ptes that loaded items give, the reply is that of these items.
 pub fn decide_table(
     config: &Config,
     enclave: &Enclave,
@@ -83,7 +82,7 @@ pub fn decide_table(
         may_take(enclave, page)
             && owned
             && has_room_for_table(enclave, va, level)
-            && lets_on(config, path_of_table(level), entries),
+            && last_fits(config, path_of_table(level), entries),
     )
 }
 
@@ -100,13 +99,13 @@ fn is_owned_by_os(region: &Region) -> bool
 }
 
 /// load_page of a page below N. `source` is the region of the page that is copied. `entries` are the
-/// words that were read so far on va's path, from the root down, three in all; the last decides.
+/// ptes that were read so far on va's path, from the root down, three in all; the last decides.
 ///
 /// InvalidState where the enclave is not Loading, the page is below the next one or in no region of
 /// the enclave, va lies outside the enclave's range, or there is no root; then AccessDenied where the
-/// source is not Owned by the OS; then InvalidState where the last word is before the path's end and
+/// source is not Owned by the OS; then InvalidState where the last pte is before the path's end and
 /// leads to no table, or is at its end and not 0. Ok where fewer words are given than the path has
-/// means that the next word is to be read. By all the words that loaded items give, the reply is that
+/// means that the next word is to be read. By all the ptes that loaded items give, the reply is that
 /// of these items.
 pub fn decide_page(
     config: &Config,
@@ -127,13 +126,13 @@ pub fn decide_page(
     if !is_owned_by_os(source) {
         return Reply::AccessDenied;
     }
-    Reply::done_if(lets_on(config, LEAF_PATH, entries))
+    Reply::done_if(last_fits(config, LEAF_PATH, entries))
 }
 
 /// reserve of a page below N. `entries` are as for load_page.
 ///
 /// InvalidState where the enclave is not Loading, the page is below the next one or in a region of the
-/// enclave, va lies outside the enclave's range, there is no root, or the last word is before the
+/// enclave, va lies outside the enclave's range, there is no root, or the last pte is before the
 /// path's end and leads to no table, or is at its end and not 0. Ok as for load_page.
 pub fn decide_reserve(
     config: &Config,
@@ -151,6 +150,6 @@ pub fn decide_reserve(
         may_take(enclave, page)
             && !owned
             && has_room_for_leaf(enclave, va)
-            && lets_on(config, LEAF_PATH, entries),
+            && last_fits(config, LEAF_PATH, entries),
     )
 }

@@ -19,13 +19,13 @@ const DONE: Reply = Reply::Ok {
 
 const STATE: Reply = Reply::InvalidState;
 
-/// The entry that leads to a table in page 1.
+/// The pte that leads to a table in page 1.
 const TABLE: u64 = (0x80000 + 1) * 1024 + 1;
 
-/// The entry that leads to a page in page 2 that may be read.
+/// The pte that leads to a page in page 2 that may be read.
 const LEAF: u64 = (0x80000 + 2) * 1024 + 0xD3;
 
-/// An entry whose page is one behind DRAM, and one whose page is one before it.
+/// A pte whose page is one behind DRAM, and one whose page is one before it.
 const BEHIND: u64 = (0x80000 + 8) * 1024 + 1;
 
 const BEFORE: u64 = 0x7FFFF * 1024 + 1;

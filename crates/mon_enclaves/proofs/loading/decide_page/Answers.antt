@@ -1,5 +1,5 @@
 use Rattle.std.proofs.Common.{rules, ◌≡◌, ℕ, List, ap, ◌∙◌}
-use Rattle.mon_enclaves.specs.Entries.{page_reply}
+use Rattle.mon_enclaves.specs.ByWords.{page_reply}
 use Rattle.mon_enclaves.proofs.Alike.{page_reply-words}
 use Rattle.mon_enclaves.proofs.loading.decide_page.Goals as goal
 

@@ -1,5 +1,5 @@
 use Rattle.std.proofs.Common.{rules, ◌≡◌, ℕ, List, ap, ◌∙◌}
-use Rattle.mon_enclaves.specs.Entries.{reserved_reply}
+use Rattle.mon_enclaves.specs.ByWords.{reserved_reply}
 use Rattle.mon_enclaves.proofs.Alike.{reserved_reply-words}
 use Rattle.mon_enclaves.proofs.loading.decide_reserve.Goals as goal
 

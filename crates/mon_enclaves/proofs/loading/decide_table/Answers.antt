@@ -1,5 +1,5 @@
 use Rattle.std.proofs.Common.{rules, ◌≡◌, ℕ, List, ap, ◌∙◌}
-use Rattle.mon_enclaves.specs.Entries.{table_reply}
+use Rattle.mon_enclaves.specs.ByWords.{table_reply}
 use Rattle.mon_enclaves.proofs.Alike.{table_reply-words}
 use Rattle.mon_enclaves.proofs.loading.decide_table.Goals as goal
 
