@@ -1,14 +1,12 @@
-//! The words of page tables on an address's path, from the items that were loaded.
+//! The page-table entries (ptes) on an address's path, from the items that were loaded.
 
 ghost use Rattle.std.specs.Prelude.{◌≡◌, ◌<◌};
 ghost use Rattle.mon_model.specs.Loading.{served_part, is_there_for, is_table_1, is_table_0, is_leaf};
-ghost use Rattle.mon_enclaves.specs.FromItems.{table_1_for, table_0_for, leaf_for, table_entry, leaf_entry, table_words, leaf_words};
+ghost use Rattle.mon_enclaves.specs.FromItems.{table_1_for, table_0_for, leaf_for, pte_of_table, pte_of_leaf, table_words, leaf_words};
 
 use arrayvec::ArrayVec;
 use mon_types::{Loaded, LoadedKind};
-
-/// The page frame number of DRAM's first page.
-const FIRST_FRAME: u64 = 0x80000;
+use sv39_pte::{leaf_pte, pointer_pte};
 
 /// The part of an address that an item of this kind serves.
 fn part_served(kind: LoadedKind, va: u64) -> u64
@@ -77,27 +75,27 @@ fn leaf_of(items: &[Loaded], va: u64) -> Option<Loaded>
         .copied()
 }
 
-/// The entry that leads to a table, 0 where there is none.
-fn entry_of_table(table: Option<Loaded>) -> u64
-    ensures { result ≡ table_entry table }
+/// The pte that leads to a table, 0 where there is none.
+fn pte_of_table(table: Option<Loaded>) -> u64
+    ensures { result ≡ pte_of_table table }
 {
     match table {
         None => 0,
-        Some(item) => (FIRST_FRAME + u64::from(item.page)) * 1024 + 1,
+        Some(item) => pointer_pte(item.page),
     }
 }
 
-/// An entry that leads to a leaf without permissions, 0 where there is none.
-fn entry_of_leaf(leaf: Option<Loaded>) -> u64
-    ensures { result ≡ leaf_entry leaf 0 }
+/// The pte of a leaf without permissions, 0 where there is none.
+fn pte_of_leaf(leaf: Option<Loaded>) -> u64
+    ensures { result ≡ pte_of_leaf leaf 0 }
 {
     match leaf {
         None => 0,
-        Some(item) => (FIRST_FRAME + u64::from(item.page)) * 1024 + 0xD1,
+        Some(item) => leaf_pte(item.page, 0),
     }
 }
 
-/// All words that are read on the path of a table of this level.
+/// All ptes that are read on the path of a table of this level.
 pub fn words_of_table(items: &[Loaded], va: u64, level: u8) -> ArrayVec<u64, 3>
     ensures { result.items ≡ table_words items.now va level }
 {
@@ -106,26 +104,26 @@ pub fn words_of_table(items: &[Loaded], va: u64, level: u8) -> ArrayVec<u64, 3>
         return words;
     }
     let first = table_1_of(items, va);
-    words.push(entry_of_table(first));
+    words.push(pte_of_table(first));
     if level != 1 && first.is_some() {
-        words.push(entry_of_table(table_0_of(items, va)));
+        words.push(pte_of_table(table_0_of(items, va)));
     }
     words
 }
 
-/// All words that are read on the path of a page or a reserved page. Which permissions the leaf has does
+/// All ptes that are read on the path of a page or a reserved page. Which permissions the leaf has does
 /// not matter: only whether there is one.
 pub fn words_of_leaf(items: &[Loaded], va: u64) -> ArrayVec<u64, 3>
     ensures { result.items ≡ leaf_words items.now va 0 }
 {
     let mut words = ArrayVec::new();
     let first = table_1_of(items, va);
-    words.push(entry_of_table(first));
+    words.push(pte_of_table(first));
     if first.is_some() {
         let second = table_0_of(items, va);
-        words.push(entry_of_table(second));
+        words.push(pte_of_table(second));
         if second.is_some() {
-            words.push(entry_of_leaf(leaf_of(items, va)));
+            words.push(pte_of_leaf(leaf_of(items, va)));
         }
     }
     words
