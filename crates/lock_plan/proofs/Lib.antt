@@ -1,3 +1,4 @@
 pub mod Places
 pub mod Room
 pub mod Order
+pub mod Sets

@@ -196,12 +196,14 @@ tries_rise s core call [] valid caller fine e = omega arith
 tries_rise s core call (x ∷ rest) valid caller fine e =
     subst (λ (xs : List ObjectId). Rises s.shape 0 144 xs) (settled s core call x rest nothing_held e ∙ e) (plan_rises s.shape core (mode_of s core) call (and_records s x nothing_held) valid caller fine)
 
-unless_in_order : (m : Shape) (o : Option Reply) (tried : List ObjectId) → (o ≡ None → Rises m 0 144 tried) → Rises m 0 144 (unless_refused o tried)
-unless_in_order m None tried h = h refl
-unless_in_order m (Some refusal) tried h = omega arith
+unless_rises : (m : Shape) (o : Option Reply) (tried : List ObjectId) → (o ≡ None → Rises m 0 144 tried) → Rises m 0 144 (unless_refused o tried)
+unless_rises m None tried h = h refl
+unless_rises m (Some refusal) tried h = omega arith
+
+pub every_rises : (s : State) (core : ℕ) (call : Call) → is_shape s.shape ≡ true → IsCaller s.shape core (mode_of s core) → Rises s.shape 0 144 (tries s core call)
+every_rises s core call valid caller =
+    unless_rises s.shape (early s.shape (mode_of s core) call) (held_tries s core call)
+    (λ none. tries_rise s core call (held_tries s core call) valid caller (not_refused (is_unsupported call) (is_wrong_mode (mode_of s core) call) (is_bad_value s.shape call) _ _ _ none) refl)
 
 pub tries_ascend : TriesAscend
-tries_ascend s core call valid caller =
-    in_order s.shape 0 144 (tries s core call)
-    (unless_in_order s.shape (early s.shape (mode_of s core) call) (held_tries s core call)
-    (λ none. tries_rise s core call (held_tries s core call) valid caller (not_refused (is_unsupported call) (is_wrong_mode (mode_of s core) call) (is_bad_value s.shape call) _ _ _ none) refl))
+tries_ascend s core call valid caller = in_order s.shape 0 144 (tries s core call) (every_rises s core call valid caller)

@@ -14,9 +14,9 @@ use Rattle.mon_types.specs.declared.object.ObjectId.{ObjectId}
 use Rattle.mon_types.specs.declared.object.ObjectId.TheVariants as objects
 use Rattle.mon_model.specs.State.{State, region_at, enclave_at, mode_of}
 use Rattle.mon_model.specs.Early.{early}
-use Rattle.mon_model.specs.Tries.{free_tries, held_tries, unless_refused, tries}
+use Rattle.mon_model.specs.Tries.{free_tries, delete_tries, held_tries, unless_refused, tries}
 use Rattle.lock_plan.specs.declared.held.Held.{Held}
-use Rattle.lock_plan.specs.Plan.{held_count, first_region, first_enclave, delete_tries, plan_of, planned}
+use Rattle.lock_plan.specs.Plan.{held_count, first_region, first_enclave, plan_of, planned}
 use Rattle.lock_plan.specs.Records.{nothing_held, and_records, with_record, records_of, IsNext}
 use Rattle.lock_plan.specs.Laws.{asked, AskingGivesTries, OneMoreIsHeld, FirstSettles}
 

@@ -6,10 +6,10 @@ use Rattle.mon_types.specs.declared.call.Call.{Call}
 use Rattle.mon_types.specs.declared.object.ObjectId.{ObjectId}
 use Rattle.mon_model.specs.State.{State, mode_of}
 use Rattle.mon_model.specs.Early.{early}
-use Rattle.mon_model.specs.Tries.{tries}
+use Rattle.mon_model.specs.Tries.{add_tried, tried_set, tries}
 use Rattle.lock_plan.specs.declared.held.Held.{Held}
 use Rattle.lock_plan.specs.Plan.{planned}
-use Rattle.lock_plan.specs.Objects.{IsCaller, AreInOrder}
+use Rattle.lock_plan.specs.Objects.{IsCaller, AreInOrder, HasPlace}
 use Rattle.lock_plan.specs.Records.{records_of, with_record, HoldsFront}
 
 -- the first n objects that come of asking for the planned object again and again, each time with the
@@ -34,3 +34,11 @@ FirstSettles = (s t : State) (core : ℕ) (call : Call) (x : ObjectId) (rest : L
 -- what a call tries are objects of the machine, each before all later ones
 abbrev pub TriesAscend : Type 0
 TriesAscend = (s : State) (core : ℕ) (call : Call) → is_shape s.shape ≡ true → IsCaller s.shape core (mode_of s core) → AreInOrder s.shape (tries s core call)
+
+-- the sets of the first objects that a call tries have a place for the next, and with it are the sets of one more
+pub record AddsTried (front : List ObjectId) (x : ObjectId) : Type 0 where
+  pub place : HasPlace (tried_set front) x
+  pub added : add_tried x (tried_set front) ≡ tried_set (front ++ x ∷ [])
+
+abbrev pub OneMoreIsTried : Type 0
+OneMoreIsTried = (s : State) (core : ℕ) (call : Call) (front : List ObjectId) (x : ObjectId) (rest : List ObjectId) → is_shape s.shape ≡ true → IsCaller s.shape core (mode_of s core) → tries s core call ≡ front ++ x ∷ rest → AddsTried front x

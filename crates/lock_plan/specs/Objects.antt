@@ -1,11 +1,12 @@
 -- The objects of a machine and the order in which they are tried. This project's own.
-use Rattle.std.specs.Prelude.{ℕ, ◌<◌, List, All}
+use Rattle.std.specs.Prelude.{ℕ, ◌^◌, ◌<◌, List, All}
 use Rattle.std.specs.List.{AllPairs}
 use Rattle.mon_types.specs.Shape.{Shape}
 use Rattle.mon_types.specs.Objects.{object_number}
 use Rattle.mon_types.specs.declared.thread.Mode.{Mode}
 use Rattle.mon_types.specs.declared.object.ObjectId.{ObjectId}
 use Rattle.mon_types.specs.declared.object.ObjectId.TheVariants as objects
+use Rattle.mon_types.specs.declared.object.Tried.{Tried}
 use Rattle.mon_types.specs.Modes.{own_slot, own_thread}
 
 -- the machine has the object: it has 8 enclave slots, 16 thread slots, and as many regions and cells as
@@ -30,3 +31,10 @@ IsBefore x y = object_number x < object_number y
 pub record AreInOrder (shape : Shape) (tried : List ObjectId) : Type 0 where
   pub there : All (HasObject shape) tried
   pub ascending : AllPairs IsBefore tried
+
+-- the sets have a place for the object: there can be one of this number, and no higher one of its kind is in them
+abbrev pub HasPlace : Tried → ObjectId → Type 0
+HasPlace t (objects.Enclave e) = (e < 8) × (t.enclaves < 2 ^ e)
+HasPlace t (objects.Thread h) = (h < 16) × (t.threads < 2 ^ h)
+HasPlace t (objects.Region r) = (r < 64) × (t.regions < 2 ^ r)
+HasPlace t (objects.Cell c) = (c < 16) × (t.cells < 2 ^ c)

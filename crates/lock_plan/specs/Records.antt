@@ -24,7 +24,7 @@ abbrev pub and_records : State → ObjectId → Held → Held
 and_records s (objects.Enclave e) h = record h { enclaves = record { items = (e, enclave_at s e) ∷ h.enclaves.items } }
 and_records s (objects.Thread t) h = record h { threads = record { items = (t, thread_at s t) ∷ h.threads.items } }
 and_records s (objects.Region r) h = record h { regions = record { items = (r, region_at s r) ∷ h.regions.items } }
-and_records s (objects.Cell c) h = record h { cells = record { items = flushed_at s c ∷ h.cells.items } }
+and_records s (objects.Cell c) h = record h { cells = record { items = (c, flushed_at s c) ∷ h.cells.items } }
 
 -- the records of these objects in a state
 abbrev pub records_of : State → List ObjectId → Held
@@ -36,7 +36,7 @@ abbrev pub with_record : State → ObjectId → Held → Held
 with_record s (objects.Enclave e) h = record h { enclaves = record { items = h.enclaves.items ++ (e, enclave_at s e) ∷ [] } }
 with_record s (objects.Thread t) h = record h { threads = record { items = h.threads.items ++ (t, thread_at s t) ∷ [] } }
 with_record s (objects.Region r) h = record h { regions = record { items = h.regions.items ++ (r, region_at s r) ∷ [] } }
-with_record s (objects.Cell c) h = record h { cells = record { items = h.cells.items ++ flushed_at s c ∷ [] } }
+with_record s (objects.Cell c) h = record h { cells = record { items = h.cells.items ++ (c, flushed_at s c) ∷ [] } }
 
 -- The call tries `front` in state s and then `rest`, and the records of `front` are held.
 pub record HoldsFront (s : State) (core : ℕ) (call : Call) (held : Held) (front rest : List ObjectId) : Type 0 where

@@ -7,15 +7,14 @@ ghost use Rattle.lock_plan.specs.Records.{nothing_held};
 use arrayvec::ArrayVec;
 use mon_types::{Enclave, Region, Thread};
 
-/// The records of the objects that a call holds so far, kind by kind, in the order in which they were
-/// tried. An enclave slot, a thread slot and a region stand with their numbers. A cell stands without:
-/// a call tries all cells, from that of core 0 on, or its own core's alone.
+/// The records of the objects that a call holds so far, each with the object's number, kind by kind, in
+/// the order in which they were tried. That of a cell is the ticket of its core's last flush.
 #[derive(Debug, Drop)]
 pub struct Held {
     pub enclaves: ArrayVec<(u8, Enclave), 2>,
     pub threads: ArrayVec<(u8, Thread), 1>,
     pub regions: ArrayVec<(u8, Region), 64>,
-    pub cells: ArrayVec<u32, 16>,
+    pub cells: ArrayVec<(u8, u32), 16>,
 }
 
 impl Held {

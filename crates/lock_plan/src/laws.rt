@@ -1,6 +1,6 @@
 //! Laws of plans. No code runs here.
 
-ghost use Rattle.lock_plan.specs.Laws.{AskingGivesTries, OneMoreIsHeld, FirstSettles, TriesAscend};
+ghost use Rattle.lock_plan.specs.Laws.{AskingGivesTries, OneMoreIsHeld, FirstSettles, TriesAscend, OneMoreIsTried};
 
 /// Asking for the next object again and again, in a state that stays, gives exactly the objects that the
 /// call tries there, in order.
@@ -24,4 +24,10 @@ pub fn first_settles()
 /// slots, thread slots, regions, cells, each from the lowest on.
 pub fn tries_ascend()
     ensures { TriesAscend }
+{}
+
+/// The next object that a call tries is behind all of its kind, so that the sets of tried objects can be
+/// made one object after the other.
+pub fn one_more_is_tried()
+    ensures { OneMoreIsTried }
 {}

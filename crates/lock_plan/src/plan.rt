@@ -2,16 +2,15 @@
 
 ghost use Rattle.std.specs.Prelude.{◌≡◌, ◌<◌, ◌≤◌, ◌++◌, [], ◌∷◌, slice_get, map, None, true, IfSome};
 ghost use Rattle.mon_types.specs.Shape.{is_shape};
-ghost use Rattle.mon_types.specs.Bits.{has_bit, members};
+ghost use Rattle.mon_types.specs.Bits.{members};
 ghost use Rattle.mon_model.specs.Early.{early};
-ghost use Rattle.mon_types.specs.Modes.{own_slot, own_thread};
-ghost use Rattle.mon_model.specs.Tries.{all_cells, own_enclave, free_tries, assign_tries, send_tries};
-ghost use Rattle.lock_plan.specs.Plan.{first_region, first_enclave, delete_tries, plan_of, planned};
+ghost use Rattle.mon_model.specs.Tries.{all_cells, own_enclave, free_tries, assign_tries, send_tries, delete_tries};
+ghost use Rattle.lock_plan.specs.Plan.{first_region, first_enclave, plan_of, planned};
 ghost use Rattle.lock_plan.specs.Objects.{HasObject, IsCaller};
 ghost use Rattle.lock_plan.specs.Records.{IsNext, LeavesRoom};
 
 use crate::held::Held;
-use mon_types::{Call, Config, Mode, OS_WORD, ObjectId, Region};
+use mon_types::{Call, Config, Mode, OS_WORD, ObjectId, Region, has_bit};
 
 /// The object at place `n`, if there is one.
 fn nth(objects: &[ObjectId], n: usize) -> Option<ObjectId>
@@ -39,26 +38,6 @@ fn region(r: u64) -> ObjectId
     ensures { result ≡ ObjectId.Region r }
 {
     ObjectId::Region(r as u8)
-}
-
-/// The slot of the enclave that a core is inside; no call asks this of the OS.
-fn own_slot_of(mode: Mode) -> u8
-    ensures { result ≡ own_slot mode }
-{
-    match mode {
-        Mode::Os => 0,
-        Mode::Inside { enclave, .. } => enclave,
-    }
-}
-
-/// The slot of the thread by which a core is inside an enclave; no call asks this of the OS.
-fn own_thread_of(mode: Mode) -> u8
-    ensures { result ≡ own_thread mode }
-{
-    match mode {
-        Mode::Os => 0,
-        Mode::Inside { thread, .. } => thread,
-    }
 }
 
 /// The own enclave, if the core is inside one.
@@ -155,13 +134,6 @@ fn of_free(cores: u8, r: u64, held: &Held, n: usize) -> Option<ObjectId>
     }
 }
 
-fn has_region(set: u64, r: u8) -> bool
-    requires { r < 64 }
-    ensures { result ≡ has_bit set r }
-{
-    (set >> r) % 2 == 1
-}
-
 /// The region at place `n` of those in a set that a machine with so many regions has.
 fn nth_region(set: u64, count: u8, n: usize) -> Option<ObjectId>
     requires { count ≤ 64 }
@@ -169,7 +141,7 @@ fn nth_region(set: u64, count: u8, n: usize) -> Option<ObjectId>
 {
     let mut skipped = 0;
     for r in 0..count {
-        if has_region(set, r) {
+        if has_bit(set, r) {
             if skipped == n {
                 return Some(ObjectId::Region(r));
             }
@@ -228,10 +200,10 @@ fn nth_of_plan(
         }
         Call::Delete { e } => of_delete(regions, e, held, n),
         Call::Exit | Call::Aex { .. } | Call::Restore => {
-            nth(&[ObjectId::Thread(own_thread_of(mode))], n)
+            nth(&[ObjectId::Thread(mode.own_thread())], n)
         }
         Call::Accept { .. } | Call::Read { .. } => of_own_enclave(mode, n),
-        Call::Send { to, .. } => of_send(own_slot_of(mode), to, n),
+        Call::Send { to, .. } => of_send(mode.own_slot(), to, n),
         Call::SetSatp { .. } | Call::Unknown { .. } => None,
     }
 }

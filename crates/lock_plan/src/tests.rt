@@ -32,7 +32,7 @@ fn expect(
             ObjectId::Enclave(e) => assert!(rt; held.enclaves.try_push((e, *enclave)).is_ok()),
             ObjectId::Thread(t) => assert!(rt; held.threads.try_push((t, Thread::empty())).is_ok()),
             ObjectId::Region(r) => assert!(rt; held.regions.try_push((r, region)).is_ok()),
-            ObjectId::Cell(_) => assert!(rt; held.cells.try_push(0).is_ok()),
+            ObjectId::Cell(c) => assert!(rt; held.cells.try_push((c, 0)).is_ok()),
         }
     }
     assert_eq!(rt; held.count(), objects.len(), "{call:?}");

@@ -1,0 +1,4 @@
+pub mod OnHeld
+pub mod Replied
+pub mod Left
+pub mod Decided
