@@ -3,13 +3,13 @@ use Rattle.std.proofs.Common.{◌≡◌, ◌≢◌, ◌<◌, true, false, List, 
 use Rattle.std.specs.List.{AllByRecursion}
 use Rattle.std.proofs.lemmas.Bool.{ltb-true, ltb-false}
 use Rattle.hist.specs.declared.event.Entry.{Entry}
-use Rattle.hist.specs.Logged.{Logged}
+use Rattle.hist.specs.declared.event.Event.{Event}
 use Rattle.hist.specs.History.{entries_of, placed, in_ticket_order, history}
 use Rattle.hist.specs.Merging.{Ascend, ShareNoTicket, AreApart, CanMerge}
 use Rattle.hist.proofs.Ordered.{all_weaker, all_joined, Avoids, joined, joined_map}
 
 -- what holds of an entry and of each of some others holds of each once it has its place among them
-all_placed : (P : Entry → Type 0) (e : Entry) (es : List Entry) → P e → AllByRecursion P es → AllByRecursion P (placed e es)
+pub all_placed : (P : Entry → Type 0) (e : Entry) (es : List Entry) → P e → AllByRecursion P es → AllByRecursion P (placed e es)
 all_placed P e [] here all = (here, tt)
 all_placed P e (x ∷ es) here all =
     elim (ltb e.ticket x.ticket) as (λ b. AllByRecursion P (if b then e ∷ x ∷ es else x ∷ placed e es)) [ true ↦ (here, all) | false ↦ (all.0, all_placed P e es here all.1) ]
@@ -62,7 +62,7 @@ all_distinct : (lists : List (List Entry)) → AreApart lists → AreDistinct (j
 all_distinct [] apart = tt
 all_distinct (es ∷ lists) apart = distinct_joined es (joined lists) apart.0 (share_joined es lists apart.1) (all_distinct lists apart.2)
 
-pub history_ascends : (logs : List Logged) → CanMerge logs → Ascend (history logs)
+pub history_ascends : (logs : List (List Event)) → CanMerge logs → Ascend (history logs)
 history_ascends logs can =
-    subst (λ (es : List Entry). Ascend (in_ticket_order es)) (sym (joined_map (λ (log : Logged). entries_of log.events) logs))
-    (ascend_ordered (joined (map (λ log. entries_of log.events) logs)) (all_distinct (map (λ log. entries_of log.events) logs) can.apart))
+    subst (λ (es : List Entry). Ascend (in_ticket_order es)) (sym (joined_map entries_of logs))
+    (ascend_ordered (joined (map entries_of logs)) (all_distinct (map entries_of logs) can.apart))

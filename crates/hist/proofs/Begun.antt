@@ -6,7 +6,7 @@ use Rattle.std.specs.List.{flat_map, AllByRecursion}
 use Rattle.std.specs.Borrow.{Bor}
 use Rattle.hist.specs.declared.event.Entry.{Entry}
 use Rattle.hist.specs.declared.event.Event.{Event}
-use Rattle.hist.specs.Logged.{Logged}
+use Rattle.hist.specs.Logged.{Logged, events_of}
 use Rattle.hist.specs.History.{entries_of, in_ticket_order, history}
 use Rattle.hist.specs.Merging.{Ascend, ShareNoTicket, AreApart, AreLeft, entries_left, left_by_ticket, BeginsWithEntry}
 
@@ -46,8 +46,16 @@ all_held rests [] holds = none_held rests holds
 all_held [] (log ∷ logs) holds = absurd holds
 all_held (rest ∷ rests) (log ∷ logs) holds = ap (λ (es : List Entry). es ++ flat_map entries_left rests) holds.0 ∙ ap (λ (es : List Entry). run_of log ++ es) (all_held rests logs holds.2)
 
-pub history_left : (rests : List (Bor (List Event))) (logs : List Logged) → Holds rests logs → left_by_ticket rests ≡ history logs
-history_left rests logs holds = ap in_ticket_order (all_held rests logs holds)
+runs_joined : (logs : List Logged) → flat_map entries_of (events_of logs) ≡ flat_map run_of logs
+runs_joined [] = refl
+runs_joined (log ∷ logs) = ap (λ (es : List Entry). run_of log ++ es) (runs_joined logs)
+
+runs_of : (logs : List Logged) → map entries_of (events_of logs) ≡ map run_of logs
+runs_of [] = refl
+runs_of (log ∷ logs) = ap (λ (lists : List (List Entry)). run_of log ∷ lists) (runs_of logs)
+
+pub history_left : (rests : List (Bor (List Event))) (logs : List Logged) → Holds rests logs → left_by_ticket rests ≡ history (events_of logs)
+history_left rests logs holds = ap in_ticket_order (all_held rests logs holds ∙ sym (runs_joined logs))
 
 -- no ticket stands in a list without entries
 shares_none : (es : List Entry) → ShareNoTicket es []
@@ -80,5 +88,5 @@ begin_held [] logs holds = tt
 begin_held (rest ∷ rests) [] holds = (holds.1, begin_held rests [] holds.2)
 begin_held (rest ∷ rests) (log ∷ logs) holds = (holds.1, begin_held rests logs holds.2)
 
-pub are_left : (rests : List (Bor (List Event))) (logs : List Logged) → Holds rests logs → AreApart (map run_of logs) → AreLeft rests
-are_left rests logs holds apart = record { apart = apart_held rests logs holds apart; begin = begin_held rests logs holds }
+pub are_left : (rests : List (Bor (List Event))) (logs : List Logged) → Holds rests logs → AreApart (map entries_of (events_of logs)) → AreLeft rests
+are_left rests logs holds apart = record { apart = apart_held rests logs holds (subst AreApart (runs_of logs) apart); begin = begin_held rests logs holds }

@@ -6,3 +6,6 @@ pub mod Ascending
 pub mod Periods
 pub mod Lawful
 pub mod Measured
+pub mod Growing
+pub mod Touching
+mod ByHand

@@ -9,7 +9,7 @@ use Rattle.mon_model.specs.Step.{reply_of, after}
 use Rattle.mon_model.specs.Measured.{Answered, IsMeasured}
 use Rattle.mon_model.specs.EveryMeasure.{start_measured, after_measured, refused_measured}
 use Rattle.hist.specs.declared.event.Entry.{Entry}
-use Rattle.hist.specs.Logged.{Logged}
+use Rattle.hist.specs.declared.event.Event.{Event}
 use Rattle.hist.specs.History.{history, digest_of, after_entry, after_entries, state_after, last_state}
 use Rattle.hist.specs.Legal.{IsLegalEntry, AreLegalEntries, Legal}
 use Rattle.hist.specs.Measured.{answered}
@@ -40,9 +40,9 @@ front_legal s zero es legal = tt
 front_legal s (suc k) [] legal = tt
 front_legal s (suc k) (e ∷ es) legal = (legal.0, front_legal (after_entry s e) k es legal.1)
 
-pub history_measured : (shape : Shape) (logs : List Logged) (k : ℕ) → Legal shape logs → IsMeasured (map answered (take k (history logs))) (state_after shape logs k)
+pub history_measured : (shape : Shape) (logs : List (List Event)) (k : ℕ) → Legal shape logs → IsMeasured (map answered (take k (history logs))) (state_after shape logs k)
 history_measured shape logs k legal =
     entries_measured [] (start shape) (take k (history logs)) (start_measured shape) (front_legal (start shape) k (history logs) legal.entries)
 
-pub last_measured : (shape : Shape) (logs : List Logged) → Legal shape logs → IsMeasured (map answered (history logs)) (last_state shape logs)
+pub last_measured : (shape : Shape) (logs : List (List Event)) → Legal shape logs → IsMeasured (map answered (history logs)) (last_state shape logs)
 last_measured shape logs legal = entries_measured [] (start shape) (history logs) (start_measured shape) legal.entries

@@ -41,7 +41,7 @@ order_above : (t : ℕ) (es : List Entry) → AreAbove t es → AreAbove t (in_t
 order_above t [] above = tt
 order_above t (e ∷ es) above = placed_above t e (in_ticket_order es) above.0 (order_above t es above.1)
 
-placed_first : (e : Entry) (es : List Entry) → AreAbove e.ticket es → placed e es ≡ e ∷ es
+pub placed_first : (e : Entry) (es : List Entry) → AreAbove e.ticket es → placed e es ≡ e ∷ es
 placed_first e [] above = refl
 placed_first e (x ∷ es) above = ap (λ b. if b then e ∷ x ∷ es else x ∷ placed e es) (lt-ltb e.ticket x.ticket above.0)
 

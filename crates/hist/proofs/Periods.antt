@@ -20,7 +20,7 @@ AreBelow e es = AllByRecursion (λ x. x.ticket < e.ticket) es
 -- ---- the end of a period
 
 -- a ticket that was known, or that of one more entry where it passes
-abbrev or_this : Option ℕ → Bool → ℕ → Option ℕ
+abbrev pub or_this : Option ℕ → Bool → ℕ → Option ℕ
 or_this known passes ticket = option_or known (if passes then Some ticket else None)
 
 map_or : (x y : Option Entry) → option_map (λ e. e.ticket) (option_or x y) ≡ option_or (option_map (λ e. e.ticket) x) (option_map (λ e. e.ticket) y)
@@ -31,12 +31,12 @@ map_if : (b : Bool) (e : Entry) → option_map (λ x. x.ticket) (if b then Some 
 map_if true e = refl
 map_if false e = refl
 
-ticket_after_more : (gone : List Entry) (e : Entry) (t : ℕ) (test : Entry → Bool) → ticket_after (gone ++ e ∷ []) t test ≡ or_this (ticket_after gone t test) (nat_lt t e.ticket && test e) e.ticket
+pub ticket_after_more : (gone : List Entry) (e : Entry) (t : ℕ) (test : Entry → Bool) → ticket_after (gone ++ e ∷ []) t test ≡ or_this (ticket_after gone t test) (nat_lt t e.ticket && test e) e.ticket
 ticket_after_more gone e t test =
     let passes : Entry → Bool = λ x. nat_lt t x.ticket && test x in
     ap (option_map (λ x. x.ticket)) (find-append passes gone (e ∷ [])) ∙ map_or (find passes gone) (find passes (e ∷ [])) ∙ ap (option_or (ticket_after gone t test)) (map_if (passes e) e)
 
-none_after : (es : List Entry) (t : ℕ) (test : Entry → Bool) → AllByRecursion (λ x. x.ticket ≤ t) es → ticket_after es t test ≡ None
+pub none_after : (es : List Entry) (t : ℕ) (test : Entry → Bool) → AllByRecursion (λ x. x.ticket ≤ t) es → ticket_after es t test ≡ None
 none_after [] t test all = refl
 none_after (x ∷ es) t test all =
     ap (λ b. option_map (λ e. e.ticket) (if b && test x then Some x else find (λ e. nat_lt t e.ticket && test e) es)) (le-ltb t x.ticket all.0) ∙ none_after es t test all.1
@@ -106,7 +106,7 @@ found_below e (y ∷ es) a x below is =
     ])
     refl is
 
-none_found : (e : Entry) (es : List Entry) → AreBelow e es → entry_at es e.ticket ≡ None
+pub none_found : (e : Entry) (es : List Entry) → AreBelow e es → entry_at es e.ticket ≡ None
 none_found e [] below = refl
 none_found e (x ∷ es) below =
     ap (λ b. if b then Some x else entry_at es e.ticket) (ne_eqb x.ticket e.ticket (omega (arith, below.0))) ∙ none_found e es below.1
@@ -148,7 +148,7 @@ owner_from_more gone e r a below true same =
     ∙ ap (λ (es : List Entry). owner_by r (is_initialized es) e) kept
     ∙ sym (none_or (owner_from r (entries_below gone a) (entry_at gone a)) (owner_by r (is_initialized gone) e) (ap (owner_from r (entries_below gone a)) none))
 
-owner_more : (gone : List Entry) (e : Entry) (r a : ℕ) → AreBelow e gone
+pub owner_more : (gone : List Entry) (e : Entry) (r a : ℕ) → AreBelow e gone
     → owner_of_period (gone ++ e ∷ []) r a ≡ option_or (owner_of_period gone r a) (if e.ticket == a then owner_by r (is_initialized gone) e else None)
 owner_more gone e r a below =
     let found : owner_from r (entries_below (gone ++ e ∷ []) a) (entry_at (gone ++ e ∷ []) a) ≡ option_or (owner_from r (entries_below gone a) (entry_at gone a)) (if e.ticket == a then owner_by r (is_initialized gone) e else None) =

@@ -1,17 +1,16 @@
 -- The one history of all logs, and the states that it goes through. This project's own.
 use Rattle.std.specs.Prelude.{ℕ, nat_lt, if◌then◌else◌, List, [], ◌∷◌, take, replicate, Option, Some, None}
-use Rattle.std.specs.List.{flat_map}
+use Rattle.std.specs.List.{flat_map, slice_index_or}
 use Rattle.mon_types.specs.Shape.{Shape}
 use Rattle.hist.specs.declared.event.PageInput.{PageInput}
 use Rattle.hist.specs.declared.event.Entry.{Entry}
 use Rattle.hist.specs.declared.event.Event.{Event}
 use Rattle.hist.specs.declared.event.Event.TheVariants as events
-use Rattle.hist.specs.Logged.{Logged}
 use Rattle.mon_model.specs.State.{State, start}
 use Rattle.mon_types.specs.Replies.{is_concurrent}
 use Rattle.mon_model.specs.Step.{monitor_step}
 
--- the monitor calls among a core's events
+-- the monitor calls among a core's events, the oldest first as they are
 abbrev pub entry_in : Event → List Entry
 entry_in (events.Entry e) = e ∷ []
 entry_in (events.Touch region since) = []
@@ -29,9 +28,13 @@ abbrev pub in_ticket_order : List Entry → List Entry
 in_ticket_order [] = []
 in_ticket_order (e ∷ es) = placed e (in_ticket_order es)
 
+-- the log of a core, by its number
+abbrev pub log_of : List (List Event) → ℕ → List Event
+log_of logs core = slice_index_or logs core []
+
 -- the history: the entries of all logs, in ticket order
-abbrev pub history : List Logged → List Entry
-history logs = in_ticket_order (flat_map (λ log. entries_of log.events) logs)
+abbrev pub history : List (List Event) → List Entry
+history logs = in_ticket_order (flat_map entries_of logs)
 
 -- the digest of the page that an entry read, which no other call uses
 abbrev pub digest_of : Option PageInput → List ℕ
@@ -49,9 +52,9 @@ after_entries s [] = s
 after_entries s (e ∷ es) = after_entries (after_entry s e) es
 
 -- S(k): the state after the first k entries of the history
-abbrev pub state_after : Shape → List Logged → ℕ → State
+abbrev pub state_after : Shape → List (List Event) → ℕ → State
 state_after shape logs k = after_entries (start shape) (take k (history logs))
 
 -- S(n): the state after all of them
-abbrev pub last_state : Shape → List Logged → State
+abbrev pub last_state : Shape → List (List Event) → State
 last_state shape logs = after_entries (start shape) (history logs)

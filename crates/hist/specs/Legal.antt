@@ -1,10 +1,11 @@
 -- When logs are a legal history of the sequential monitor. This project's own.
-use Rattle.std.specs.Prelude.{◌≡◌, ℕ, ◌+◌, ◌<◌, Bool, true, false, if◌then◌else◌, List, [], ◌∷◌, is_some}
+use Rattle.std.specs.Prelude.{◌≡◌, ℕ, ◌+◌, ◌<◌, Bool, false, if◌then◌else◌, List, [], ◌∷◌, length, is_some}
 use Rattle.mon_types.specs.Shape.{Shape}
 use Rattle.hist.specs.declared.event.Entry.{Entry}
+use Rattle.hist.specs.declared.event.Event.{Event}
 use Rattle.hist.specs.declared.finished.Finished.{Finished}
-use Rattle.hist.specs.Logged.{Logged}
-use Rattle.hist.specs.History.{entries_of, history, digest_of, after_entry, last_state}
+use Rattle.hist.specs.Logged.{events_of}
+use Rattle.hist.specs.History.{entries_of, log_of, history, digest_of, after_entry, last_state}
 use Rattle.mon_model.specs.State.{State, start}
 use Rattle.mon_types.specs.Replies.{is_done, is_concurrent}
 use Rattle.mon_model.specs.OnCore.{is_load_page}
@@ -28,10 +29,9 @@ abbrev pub AreOwn : ℕ → ℕ → ℕ → List Entry → Type 0
 AreOwn core serial before [] = Unit {0}
 AreOwn core serial before (e ∷ es) = IsNext core serial before e × AreOwn core (serial + 1) e.ticket es
 
--- the logs of the cores from this one on
-abbrev pub AreOwnLogs : ℕ → List Logged → Type 0
-AreOwnLogs core [] = Unit {0}
-AreOwnLogs core (log ∷ logs) = AreOwn core 0 0 (entries_of log.events) × AreOwnLogs (core + 1) logs
+-- each core's log has its own entries, with serials from 0 on and ascending tickets
+abbrev pub AreOwnLogs : List (List Event) → Type 0
+AreOwnLogs logs = (core : ℕ) → core < length logs → AreOwn core 0 0 (entries_of (log_of logs core))
 
 -- an entry has a page exactly where it is a load_page that answered Ok
 abbrev pub has_its_page : Entry → Bool
@@ -48,17 +48,18 @@ abbrev pub AreLegalEntries : State → List Entry → Type 0
 AreLegalEntries s [] = Unit {0}
 AreLegalEntries s (e ∷ es) = IsLegalEntry s e × AreLegalEntries (after_entry s e) es
 
--- The logs are one legal history: tickets from 1 without gap, each log its own core's entries in
--- order, and each entry what the sequential monitor does at its ticket.
-pub record Legal (shape : Shape) (logs : List Logged) : Type 0 where
+-- The logs are one legal history: one log for each core, tickets from 1 without gap, each log its own
+-- core's entries in order, and each entry what the sequential monitor does at its ticket.
+pub record Legal (shape : Shape) (logs : List (List Event)) : Type 0 where
+  pub count : length logs ≡ shape.cores
   pub tickets : AreTickets 1 (history logs)
-  pub own : AreOwnLogs 0 logs
+  pub own : AreOwnLogs logs
   pub entries : AreLegalEntries (start shape) (history logs)
 
 -- the tables of a finished run are S(n)
 pub record HasLastTables (f : Finished) : Type 0 where
-  pub regions : f.regions ≡ (last_state f.config f.logs).regions
-  pub enclaves : f.enclaves ≡ (last_state f.config f.logs).enclaves
-  pub threads : f.threads ≡ (last_state f.config f.logs).threads
-  pub flushed : f.flushed ≡ (last_state f.config f.logs).flushed
-  pub modes : f.modes ≡ (last_state f.config f.logs).modes
+  pub regions : f.regions ≡ (last_state f.config (events_of f.logs)).regions
+  pub enclaves : f.enclaves ≡ (last_state f.config (events_of f.logs)).enclaves
+  pub threads : f.threads ≡ (last_state f.config (events_of f.logs)).threads
+  pub flushed : f.flushed ≡ (last_state f.config (events_of f.logs)).flushed
+  pub modes : f.modes ≡ (last_state f.config (events_of f.logs)).modes

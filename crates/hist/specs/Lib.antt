@@ -3,8 +3,12 @@ pub mod History
 pub mod Legal
 pub mod Merging
 pub mod Period
+pub mod Touched
+pub mod SafeLog
+pub mod Printing
 pub mod Busy
 pub mod Walk
 pub mod Rows
+pub mod Fields
 pub mod Measured
 pub mod Laws

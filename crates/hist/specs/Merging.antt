@@ -6,7 +6,6 @@ use Rattle.hist.specs.declared.event.Entry.{Entry}
 use Rattle.hist.specs.declared.event.Event.{Event}
 use Rattle.hist.specs.declared.event.Event.TheVariants as events
 use Rattle.hist.specs.declared.merge.First.{First}
-use Rattle.hist.specs.Logged.{Logged}
 use Rattle.hist.specs.History.{entries_of, in_ticket_order}
 
 -- each ticket is below all later ones
@@ -25,9 +24,9 @@ AreApart (es ∷ lists) = Ascend es × AllByRecursion (ShareNoTicket es) lists �
 
 -- What a merge asks: there are at most 16 logs, the tickets ascend in each, and no ticket stands in
 -- two.
-pub record CanMerge (logs : List Logged) : Type 0 where
+pub record CanMerge (logs : List (List Event)) : Type 0 where
   pub few : length logs ≤ 16
-  pub apart : AreApart (map (λ log. entries_of log.events) logs)
+  pub apart : AreApart (map entries_of logs)
 
 -- ---- inside a merge, where these events of each log are left
 
@@ -67,4 +66,5 @@ IsEarliest lists (Some first) = BeginsEarliest lists first
 
 -- the earliest of any lists becomes the earliest of these and of one list behind them
 abbrev pub TakesIn : List Entry → ℕ → Option First → Option First → Type 0
-TakesIn es at before after = (lists : List (List Entry)) → length lists ≡ at → IsEarliest lists before → IsEarliest (lists ++ es ∷ []) after
+TakesIn es at before after =
+    (lists : List (List Entry)) → length lists ≡ at → IsEarliest lists before → IsEarliest (lists ++ es ∷ []) after

@@ -1,24 +1,17 @@
--- Periods of ownership, read off a history, and what a touch of one must keep. This project's own.
-use Rattle.std.specs.Prelude.{◌≡◌, ℕ, ◌^◌, ◌<◌, ◌⊎◌, ⊤, Bool, true, false, ◌==◌, ◌&&◌, nat_lt, if◌then◌else◌, IsTrue, List, [], ◌∷◌, ◌++◌, filter, find, fold, Any, Option, Some, None, option_and_then, IfSome, IsSomeAnd}
+-- Periods of ownership, read off a history. This project's own.
+use Rattle.std.specs.Prelude.{◌≡◌, ℕ, ◌^◌, ◌<◌, ◌⊎◌, ⊤, Bool, true, false, ◌==◌, ◌&&◌, nat_lt, if◌then◌else◌, List, filter, find, fold, Option, Some, None, option_and_then}
 use Rattle.std.specs.Option.{option_map}
 use Rattle.std.specs.List.{AllByRecursion}
 use Rattle.mon_types.specs.declared.region.Owner.{Owner}
 use Rattle.mon_types.specs.declared.region.Owner.TheVariants as owners
-use Rattle.mon_types.specs.declared.thread.Mode.{Mode}
-use Rattle.mon_types.specs.declared.thread.Mode.TheVariants as modes
 use Rattle.mon_types.specs.declared.call.Call.{Call}
 use Rattle.mon_types.specs.declared.call.Call.TheVariants as calls
 use Rattle.mon_types.specs.declared.object.Tried.{Tried}
 use Rattle.mon_types.specs.Owns.{os_word}
 use Rattle.mon_types.specs.Replies.{is_done}
-use Rattle.mon_model.specs.OnCore.{is_flush, clears, mode_by}
 use Rattle.mon_model.specs.OnRegion.{withdraws, frees, owner_made, initialized_by}
 use Rattle.hist.specs.declared.event.Entry.{Entry}
-use Rattle.hist.specs.declared.event.Event.{Event}
-use Rattle.hist.specs.declared.event.Event.TheVariants as events
 use Rattle.hist.specs.declared.period.Period.{Period}
-use Rattle.hist.specs.Logged.{Logged}
-use Rattle.hist.specs.History.{entries_of, history}
 
 -- ---- the beginning
 
@@ -64,7 +57,8 @@ ticket_after h ticket test = option_map (λ e. e.ticket) (find (λ e. nat_lt tic
 abbrev pub period_with : List Entry → ℕ → ℕ → Owner → Period
 period_with h r a owner =
     let b = ticket_after h a (is_end r) in
-    record { region = r; owner = owner; since = a; blocked = b; freed = option_and_then (λ at. ticket_after h at (is_free r)) b }
+    let z = option_and_then (λ at. ticket_after h at (is_free r)) b in
+    record { region = r; owner = owner; since = a; blocked = b; freed = z }
 
 abbrev pub period_in : List Entry → ℕ → ℕ → Option Period
 period_in h r a = option_map (period_with h r a) (owner_of_period h r a)
@@ -80,54 +74,3 @@ NamesOwnerIn _ tried = ⊤
 -- each assign and accept_region that answers Ok does so
 abbrev pub NameOwners : List Entry → Type 0
 NameOwners h = AllByRecursion (λ e. is_done e.reply ≡ true → NamesOwnerIn e.call e.tried) h
-
--- ---- touches
-
--- an Ok of flush, enter, exit, aex or set_satp
-abbrev pub IsClearing : Entry → Type 0
-IsClearing e = IsTrue (is_done e.reply && clears e.call)
-
--- an Ok flush
-abbrev pub IsFlush : Entry → Type 0
-IsFlush e = IsTrue (is_done e.reply && is_flush e.call)
-
--- for whom a core runs after these entries of its log: an Ok enter, exit or aex changes it
-abbrev pub mode_after : List Entry → Mode
-mode_after es = fold (λ before e. if is_done e.reply then mode_by e.call before else before) modes.Os es
-
--- the OS, or the enclave that the core is inside
-abbrev pub IsOpenTo : Mode → Owner → Type 0
-IsOpenTo mode owners.Os = ⊤
-IsOpenTo modes.Os (owners.Enclave e) = ⊥
-IsOpenTo (modes.Inside f t) (owners.Enclave e) = f ≡ e
-
--- each equal touch among these events has a clearing entry behind it
-abbrev pub ClearedSince : Event → List Event → Type 0
-ClearedSince touch [] = ⊤
-ClearedSince touch (event ∷ behind) = (event ≡ touch → Any IsClearing (entries_of behind)) × ClearedSince touch behind
-
--- A touch of the period p, where its core's log has these events before it and behind it: the entries
--- before it have tickets below the block of p and those behind it above the beginning of p; the owner is
--- the OS or the enclave that the core is inside; where p was freed, the core flushed behind the touch,
--- between the block and the free; and it cleared between this touch and each earlier one of p.
-pub record IsSafeTouch (before : List Event) (touch : Event) (behind : List Event) (p : Period) : Type 0 where
-  pub before_block : IfSome p.blocked (λ b. AllByRecursion (λ e. e.ticket < b) (entries_of before))
-  pub after_beginning : AllByRecursion (λ e. p.since < e.ticket) (entries_of behind)
-  pub owner : IsOpenTo (mode_after (entries_of before)) p.owner
-  pub counted_flush : (b z : ℕ) → p.blocked ≡ Some b → p.freed ≡ Some z → Any (λ e. IsFlush e × (b < e.ticket) × (e.ticket < z)) (entries_of behind)
-  pub cleared : ClearedSince touch before
-
--- an event of a log: where it is a touch, it is one of a period of the history, and safe
-abbrev pub IsSafe : List Entry → List Event → Event → List Event → Type 0
-IsSafe h before (events.Entry e) behind = ⊤
-IsSafe h before (events.Touch r a) behind = IsSomeAnd (period_in h r a) (IsSafeTouch before (events.Touch r a) behind)
-IsSafe h before (events.Stop line why) behind = ⊤
-
--- the events of a log behind these
-abbrev pub AreSafe : List Entry → List Event → List Event → Type 0
-AreSafe h before [] = ⊤
-AreSafe h before (event ∷ behind) = IsSafe h before event behind × AreSafe h (before ++ event ∷ []) behind
-
--- the touches of all logs
-abbrev pub SafeLog : List Logged → Type 0
-SafeLog logs = AllByRecursion (λ log. AreSafe (history logs) [] log.events) logs

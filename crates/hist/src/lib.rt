@@ -3,6 +3,7 @@
 #![tactic(auto)]
 
 mod event;
+pub mod fields;
 mod finished;
 mod laws;
 mod log;
@@ -14,7 +15,10 @@ mod tests;
 
 pub use event::{Entry, Event, PageInput, Why};
 pub use finished::Finished;
-pub use laws::{legal_logs_merge, measured_by_history, never_busy_alone};
+pub use laws::{
+    legal_logs_are_reported, legal_run_is_reported, measured_by_history, never_busy_alone,
+    touches_by_walk,
+};
 pub use log::Log;
 pub use merge::Merge;
 pub use period::{Period, period_of};

@@ -3,6 +3,7 @@
 ghost use Rattle.std.specs.Prelude.{◌≡◌, map};
 ghost use Rattle.std.specs.List.{AllByRecursion};
 ghost use Rattle.std.specs.Iterator.{YieldsFirstRef, item_count};
+ghost use Rattle.hist.specs.Logged.{events_of};
 ghost use Rattle.hist.specs.History.{history, entries_of};
 ghost use Rattle.hist.specs.Merging.{CanMerge, entries_left, BeginsWithEntry, IsEarliest, TakesIn};
 
@@ -34,8 +35,8 @@ impl<'a> Merge<'a> {
     /// All entries of these logs, of which there are at most 16. The tickets ascend in each log, and no
     /// ticket stands in two.
     pub fn new(logs: &'a [Log]) -> Merge<'a>
-        requires { CanMerge logs.now }
-        ensures { result ≡ history logs.now }
+        requires { CanMerge (events_of logs.now) }
+        ensures { result ≡ history (events_of logs.now) }
     {
         let mut rests: [&'a [Event]; 16] = [&[]; 16];
         for (i, log) in logs.iter().enumerate() {

@@ -6,6 +6,7 @@ ghost use Rattle.mon_types.specs.declared.region.Owner.TheVariants as owners;
 ghost use Rattle.mon_types.specs.Owns.{os_word};
 ghost use Rattle.mon_types.specs.Replies.{is_done};
 ghost use Rattle.mon_model.specs.OnRegion.{sole_slot};
+ghost use Rattle.hist.specs.Logged.{events_of};
 ghost use Rattle.hist.specs.History.{history};
 ghost use Rattle.hist.specs.Merging.{CanMerge};
 ghost use Rattle.hist.specs.Period.{NameOwners, NamesOwnerIn, period_in, owner_by, is_end, is_free};
@@ -31,10 +32,10 @@ pub struct Period {
 /// 0, the start, one began for every region. The logs are such as can be merged; each assign that
 /// answered Ok names the OS or a slot below 8, and each such accept_region tried exactly one enclave.
 pub fn period_of(logs: &[Log], region: u8, since: u32) -> Option<Period>
-    requires logs { CanMerge logs.now }
+    requires logs { CanMerge (events_of logs.now) }
     requires region { region < 64 }
-    requires owners { NameOwners (history logs.now) }
-    ensures { result ≡ period_in (history logs.now) region since }
+    requires owners { NameOwners (history (events_of logs.now)) }
+    ensures { result ≡ period_in (history (events_of logs.now)) region since }
 {
     let mut period = known_at_start(region, since);
     let mut initialized = [false; 8];

@@ -3,6 +3,7 @@
 ghost use Rattle.std.specs.Prelude.{◌≡◌, ◌≤◌, None, length, IfOk};
 ghost use Rattle.hist.specs.declared.event.Event.TheVariants as events;
 ghost use Rattle.mon_types.specs.declared.call.Call.{Call};
+ghost use Rattle.hist.specs.Logged.{events_of};
 ghost use Rattle.hist.specs.History.{history};
 ghost use Rattle.hist.specs.Merging.{CanMerge};
 ghost use Rattle.hist.specs.Period.{NameOwners};
@@ -79,8 +80,8 @@ fn three_logs_by_ticket(rt: HostRuntime) -> Result<(), Fail> {
 /// Region 3 is blocked at 3 and freed at 5. Enclave 0 is created at 6, gets region 3 at 7 and runs from
 /// 8 on; region 5 is offered to it at 9 and accepted at 10. It is deleted at 11, and region 5 is freed.
 fn made(alloc: Global) -> Result<[Log; 2], AllocError>
-    ensures can { IfOk result (λ logs. CanMerge logs) }
-    ensures owners { IfOk result (λ logs. NameOwners (history logs)) }
+    ensures can { IfOk result (λ logs. CanMerge (events_of logs)) }
+    ensures owners { IfOk result (λ logs. NameOwners (history (events_of logs))) }
 {
     let refused = Reply::InvalidState;
     let zero = log_of(

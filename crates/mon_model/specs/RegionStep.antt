@@ -25,28 +25,28 @@ is_idle (regions.Owned owner since) = false
 is_idle (regions.Blocked owner since at) = false
 is_idle (regions.Offered to at) = true
 
--- Region x becomes y at ticket k, where the cells stand at `flushed`. `withdrawn`, `freed` and `made` are what the
+-- Region x becomes y at ticket k, where the cells stand at `flushed`. `ended`, `freed` and `made` are what the
 -- call tells of the region: that it takes it from its owner, that it frees it, whom it makes its owner.
-pub data RegionStep (k : ℕ) (flushed : List ℕ) (withdrawn freed : Bool) (made : Option Owner) (x y : Region) : Type 0 where
+pub data RegionStep (k : ℕ) (flushed : List ℕ) (ended freed : Bool) (made : Option Owner) (x y : Region) : Type 0 where
   -- it stays: a call that would take it from its owner finds none
-  Stays : y ≡ x → (withdrawn && is_owned x) ≡ false → freed ≡ false → made ≡ None
-      → RegionStep k flushed withdrawn freed made x y
+  Stays : y ≡ x → (ended && is_owned x) ≡ false → freed ≡ false → made ≡ None
+      → RegionStep k flushed ended freed made x y
   -- its owner's time ends
   Ends : (owner : Owner) (a : ℕ) → x ≡ regions.Owned owner a → y ≡ regions.Blocked owner a k
-      → withdrawn ≡ true → freed ≡ false → made ≡ None → RegionStep k flushed withdrawn freed made x y
+      → ended ≡ true → freed ≡ false → made ≡ None → RegionStep k flushed ended freed made x y
   -- an offer is withdrawn
   Withdrawn : (to a : ℕ) → x ≡ regions.Offered to a → y ≡ regions.Blocked (owners.Enclave to) a k
-      → withdrawn ≡ true → freed ≡ false → made ≡ None → RegionStep k flushed withdrawn freed made x y
+      → ended ≡ true → freed ≡ false → made ≡ None → RegionStep k flushed ended freed made x y
   -- it is freed: each core has flushed since it was blocked
   Frees : (owner : Owner) (a b : ℕ) → x ≡ regions.Blocked owner a b → y ≡ regions.Free
       → list_all (λ ticket. nat_le b ticket) flushed ≡ true
-      → withdrawn ≡ false → freed ≡ true → made ≡ None → RegionStep k flushed withdrawn freed made x y
+      → ended ≡ false → freed ≡ true → made ≡ None → RegionStep k flushed ended freed made x y
   -- an owner's time begins
   Begins : (owner : Owner) → is_idle x ≡ true → y ≡ regions.Owned owner k
-      → withdrawn ≡ false → freed ≡ false → made ≡ Some owner → RegionStep k flushed withdrawn freed made x y
+      → ended ≡ false → freed ≡ false → made ≡ Some owner → RegionStep k flushed ended freed made x y
   -- it is offered
   Offers : (to : ℕ) → x ≡ regions.Free → y ≡ regions.Offered to k
-      → withdrawn ≡ false → freed ≡ false → made ≡ None → RegionStep k flushed withdrawn freed made x y
+      → ended ≡ false → freed ≡ false → made ≡ None → RegionStep k flushed ended freed made x y
 
 -- A flag that says whether a slot is initialized is right about this stage. Of Empty it says nothing: a delete
 -- does not take back an init.

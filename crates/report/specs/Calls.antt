@@ -1,5 +1,5 @@
 -- The line of a call in a report, this project's own format.
-use Rattle.std.specs.Prelude.{◌≡◌, ℕ, ◌≤◌, ⊤, List, [], ◌++◌, take, codes, if◌then◌else◌, is_some}
+use Rattle.std.specs.Prelude.{ℕ, List, [], ◌++◌, take, codes, if◌then◌else◌}
 use Rattle.std.specs.Fmt.{decimal}
 use Rattle.mon_types.specs.Calls.{call_name, call_args}
 use Rattle.mon_types.specs.declared.reply.Reply.{Reply}
@@ -34,7 +34,9 @@ page_text e = if has_its_page e then codes " page " ++ digest_text (digest_of e.
 
 -- the ticket, the core and the serial of a call
 unfoldable pub call_head : Entry → List ℕ
-call_head e = codes "call " ++ decimal e.ticket ++ codes " core " ++ decimal e.core ++ codes " serial " ++ decimal e.serial ++ codes " "
+call_head e =
+    codes "call " ++ decimal e.ticket ++ codes " core " ++ decimal e.core ++ codes " serial " ++ decimal e.serial
+    ++ codes " "
 
 -- the line of a call: who made it, its name and arguments, the page that it read, its reply and the
 -- objects that it tried
@@ -42,19 +44,3 @@ unfoldable pub call_line : Entry → List ℕ
 call_line e =
     call_head e ++ call_name e.call ++ all_spaced (call_args e.call) ++ page_text e ++ codes " = " ++ reply_text e.reply
     ++ codes " tried" ++ tried_text e.tried ++ codes "\n"
-
--- a reply of Ok has at most the eight words that it holds
-abbrev pub HasFewWords : Reply → Type 0
-HasFewWords (replies.Ok count words) = count ≤ 8
-HasFewWords replies.InvalidValue = ⊤
-HasFewWords replies.InvalidState = ⊤
-HasFewWords replies.AccessDenied = ⊤
-HasFewWords (replies.ConcurrentCall lock holder serial) = ⊤
-HasFewWords replies.NotFlushed = ⊤
-HasFewWords replies.Unsupported = ⊤
-
--- an entry that a call line can tell: no more words than there are, and a page exactly where it is a
--- load_page that answered Ok
-pub record IsPrintable (e : Entry) : Type 0 where
-  pub few : HasFewWords e.reply
-  pub page : is_some e.page ≡ has_its_page e

@@ -1,14 +1,14 @@
 -- The text of a report, this project's own format: the calls by ticket, the log of each core, and the
 -- tables that they leave.
 use Rattle.std.specs.Prelude.{◌≡◌, ℕ, List, ◌++◌, length, codes}
-use Rattle.std.specs.List.{flat_map, AllByRecursion}
+use Rattle.std.specs.List.{flat_map}
 use Rattle.std.specs.Fmt.{decimal}
 use Rattle.mon_types.specs.Shape.{Shape}
 use Rattle.hist.specs.declared.finished.Finished.{Finished}
-use Rattle.hist.specs.Logged.{Logged}
+use Rattle.hist.specs.Logged.{Logged, events_of}
 use Rattle.hist.specs.History.{history}
 use Rattle.report.specs.Objects.{numbered}
-use Rattle.report.specs.Calls.{call_line, IsPrintable}
+use Rattle.report.specs.Calls.{call_line}
 use Rattle.report.specs.Events.{log_text}
 use Rattle.report.specs.Tables.{region_line, enclave_text, thread_text, core_lines}
 
@@ -19,8 +19,8 @@ title_line = codes "sanctum report 1\n"
 -- the second line: how large the machine is
 unfoldable pub machine_line : Shape → List ℕ
 machine_line shape =
-    codes "machine cores " ++ decimal shape.cores ++ codes " regions " ++ decimal shape.regions ++ codes " pages " ++ decimal shape.pages
-    ++ codes " shift " ++ decimal shape.shift ++ codes "\n"
+    codes "machine cores " ++ decimal shape.cores ++ codes " regions " ++ decimal shape.regions
+    ++ codes " pages " ++ decimal shape.pages ++ codes " shift " ++ decimal shape.shift ++ codes "\n"
 
 -- the last line
 unfoldable pub end_line : List ℕ
@@ -32,7 +32,7 @@ head_text shape = title_line ++ machine_line shape
 
 -- the calls of all cores, by ticket
 abbrev pub calls_text : List Logged → List ℕ
-calls_text logs = flat_map call_line (history logs)
+calls_text logs = flat_map call_line (history (events_of logs))
 
 -- what stands before the logs
 abbrev pub opening_text : Finished → List ℕ
@@ -63,7 +63,3 @@ pub record HasAllCores (f : Finished) : Type 0 where
   pub logs : length f.logs ≡ f.config.cores
   pub flushed : length f.flushed ≡ f.config.cores
   pub modes : length f.modes ≡ f.config.cores
-
--- each call of the history can be told by its line
-abbrev pub ArePrintable : List Logged → Type 0
-ArePrintable logs = AllByRecursion IsPrintable (history logs)

@@ -2,8 +2,10 @@
 
 ghost use Rattle.std.specs.Prelude.{◌≡◌, ◌≤◌, length, [], ◌∷◌, None, IfOk};
 ghost use Rattle.hist.specs.declared.event.Event.TheVariants as events;
+ghost use Rattle.hist.specs.Logged.{events_of};
 ghost use Rattle.hist.specs.Merging.{CanMerge};
-ghost use Rattle.report.specs.Report.{HasAllCores, ArePrintable};
+ghost use Rattle.hist.specs.Printing.{ArePrintable};
+ghost use Rattle.report.specs.Report.{HasAllCores};
 
 use crate::calls::line_of_call;
 use crate::events::{line_of_event, line_of_log};
@@ -324,8 +326,8 @@ fn left(
 
 /// `block 3`, `free 3`, `flush`, `free 3` and `assign 3 os`.
 fn first_log(alloc: Global) -> Result<Log, AllocError>
-    ensures printable { IfOk result (λ log. ArePrintable (log ∷ [])) }
-    ensures merge { IfOk result (λ log. CanMerge (log ∷ [])) }
+    ensures printable { IfOk result (λ log. ArePrintable (events_of (log ∷ []))) }
+    ensures merge { IfOk result (λ log. CanMerge (events_of (log ∷ []))) }
 {
     let free = Call::Free { r: 3 };
     let assign = Call::Assign { r: 3, to: OS_WORD };
@@ -341,8 +343,8 @@ fn first_log(alloc: Global) -> Result<Log, AllocError>
 /// The plain machine with one core after these calls.
 fn first_path(alloc: Global) -> Result<Finished, AllocError>
     ensures cores { IfOk result HasAllCores }
-    ensures printable { IfOk result (λ f. ArePrintable f.logs) }
-    ensures merge { IfOk result (λ f. CanMerge f.logs) }
+    ensures printable { IfOk result (λ f. ArePrintable (events_of f.logs)) }
+    ensures merge { IfOk result (λ f. CanMerge (events_of f.logs)) }
 {
     let mut logs = Items::new(alloc);
     logs.push(first_log(alloc)?)?;
@@ -402,8 +404,8 @@ fn a_report_goes_out_line_by_line(rt: HostRuntime) -> Result<(), Fail> {
 /// of core 1.
 fn two_logs(alloc: Global) -> Result<Items<Log>, AllocError>
     ensures cores { IfOk result (λ logs. length logs ≡ 2) }
-    ensures printable { IfOk result (λ logs. ArePrintable logs) }
-    ensures merge { IfOk result (λ logs. CanMerge logs) }
+    ensures printable { IfOk result (λ logs. ArePrintable (events_of logs)) }
+    ensures merge { IfOk result (λ logs. CanMerge (events_of logs)) }
 {
     let mut zero = Log::new(alloc, 3)?;
     zero.add(made(1, 0, 0, Call::Block { r: 3 }, DONE, tried(8, 0)));
@@ -428,8 +430,8 @@ fn two_logs(alloc: Global) -> Result<Items<Log>, AllocError>
 /// The plain machine with two cores after these calls.
 fn two_cores(alloc: Global) -> Result<Finished, AllocError>
     ensures cores { IfOk result HasAllCores }
-    ensures printable { IfOk result (λ f. ArePrintable f.logs) }
-    ensures merge { IfOk result (λ f. CanMerge f.logs) }
+    ensures printable { IfOk result (λ f. ArePrintable (events_of f.logs)) }
+    ensures merge { IfOk result (λ f. CanMerge (events_of f.logs)) }
 {
     let logs = two_logs(alloc)?;
     let mut flushed = Items::new(alloc);

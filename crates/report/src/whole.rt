@@ -2,12 +2,14 @@
 
 ghost use Rattle.std.specs.Prelude.{◌≡◌, length, OnOk, OnErr};
 ghost use Rattle.std.specs.Io.KnownBytes.{Appends};
+ghost use Rattle.hist.specs.Logged.{events_of};
 ghost use Rattle.hist.specs.Merging.{CanMerge};
+ghost use Rattle.hist.specs.Printing.{ArePrintable};
 ghost use Rattle.sm_ports.specs.Causes.{HasCause};
 ghost use Rattle.sm_ports.specs.Contents.{AppendsPart};
 ghost use Rattle.report.specs.Tables.{core_lines};
 ghost use Rattle.report.specs.Written.{Writes};
-ghost use Rattle.report.specs.Report.{title_line, machine_line, end_line, head_text, calls_text, opening_text, slots_text, tables_text, records_text, report_text, HasAllCores, ArePrintable};
+ghost use Rattle.report.specs.Report.{title_line, machine_line, end_line, head_text, calls_text, opening_text, slots_text, tables_text, records_text, report_text, HasAllCores};
 
 use crate::calls::line_of_call;
 use crate::line::Line;
@@ -59,8 +61,8 @@ fn put_head<K: Sink>(config: &Config, out: &mut K) -> Result<(), Failed>
 
 /// Puts the lines of the calls of all cores, by ticket.
 fn put_history<K: Sink>(logs: &[Log], out: &mut K) -> Result<(), Failed>
-    requires merge { CanMerge logs.now }
-    requires printable { ArePrintable logs.now }
+    requires merge { CanMerge (events_of logs.now) }
+    requires printable { ArePrintable (events_of logs.now) }
     ensures lines { Writes (K.taken out.old) (K.taken out.new) result (calls_text logs.now) }
     ensures cause { HasCause (K.faults out.old) (K.faults out.new) result }
 {
@@ -84,8 +86,8 @@ fn put_cores<K: Sink>(modes: &[Mode], flushed: &[u32], out: &mut K) -> Result<()
 
 fn put_opening<K: Sink>(finished: &Finished, out: &mut K) -> Result<(), Failed>
     requires cores { HasAllCores finished.now }
-    requires printable { ArePrintable finished.now.logs }
-    requires merge { CanMerge finished.now.logs }
+    requires printable { ArePrintable (events_of finished.now.logs) }
+    requires merge { CanMerge (events_of finished.now.logs) }
     ensures lines { Writes (K.taken out.old) (K.taken out.new) result (opening_text finished.now) }
     ensures cause { HasCause (K.faults out.old) (K.faults out.new) result }
 {
@@ -122,8 +124,8 @@ fn put_records<K: Sink>(finished: &Finished, out: &mut K) -> Result<(), Failed>
 
 fn put_report<K: Sink>(finished: &Finished, out: &mut K) -> Result<(), Failed>
     requires cores { HasAllCores finished.now }
-    requires printable { ArePrintable finished.now.logs }
-    requires merge { CanMerge finished.now.logs }
+    requires printable { ArePrintable (events_of finished.now.logs) }
+    requires merge { CanMerge (events_of finished.now.logs) }
     ensures lines { Writes (K.taken out.old) (K.taken out.new) result (report_text finished.now) }
     ensures cause { HasCause (K.faults out.old) (K.faults out.new) result }
 {
@@ -137,8 +139,8 @@ fn put_report<K: Sink>(finished: &Finished, out: &mut K) -> Result<(), Failed>
 /// count of faults rose; the sink has then taken a proper front of the report.
 pub fn report<K: Sink>(finished: &Finished, out: &mut K) -> Result<(), Failed>
     requires cores { HasAllCores finished.now }
-    requires printable { ArePrintable finished.now.logs }
-    requires merge { CanMerge finished.now.logs }
+    requires printable { ArePrintable (events_of finished.now.logs) }
+    requires merge { CanMerge (events_of finished.now.logs) }
     ensures ok { OnOk result (Appends (K.taken out.old) (K.taken out.new) (report_text finished.now)) }
     ensures err { OnErr result (AppendsPart (K.taken out.old) (K.taken out.new) (report_text finished.now)) }
     ensures cause { HasCause (K.faults out.old) (K.faults out.new) result }

@@ -13,6 +13,7 @@ use Rattle.rv_asm.specs.Grammar.{IsText}
 use Rattle.rv_asm.specs.Reading.{statements_of}
 use Rattle.rv_asm.specs.declared.fault.AsmFault.{AsmFault}
 use Rattle.image_read.specs.Image.{image_text}
+use Rattle.hist.specs.Logged.{events_of}
 use Rattle.hist.specs.Legal.{Legal, HasLastTables}
 use Rattle.solo.specs.Solo.{solo_run, solo_report}
 use Rattle.sanctum.specs.declared.words.Order.{Order}
@@ -39,7 +40,7 @@ plain_run script = solo_run (plain 1) plain_start script
 -- The text is the report of the script's run on the plain machine with one core, whose log is a legal history of the sequential monitor, and whose tables are those that the history leaves.
 pub record IsRunReport (script : List Line) (text : List ℕ) : Type 0 where
   pub report : text ≡ solo_report (plain 1) plain_start script
-  pub legal : Legal (plain_run script).config (plain_run script).logs
+  pub legal : Legal (plain_run script).config (events_of (plain_run script).logs)
   pub tables : HasLastTables (plain_run script)
 
 -- The text is that report of the script that the bytes are.

@@ -2,9 +2,9 @@
 
 ghost use Rattle.std.specs.Prelude.{◌≡◌, [], ◌∷◌, IfOk};
 ghost use Rattle.mon_types.specs.Shape.{plain};
+ghost use Rattle.hist.specs.Logged.{events_of};
 ghost use Rattle.hist.specs.Legal.{Legal, HasLastTables};
-ghost use Rattle.hist.specs.Merging.{CanMerge};
-ghost use Rattle.report.specs.Report.{HasAllCores, ArePrintable};
+ghost use Rattle.report.specs.Report.{HasAllCores};
 ghost use Rattle.solo.specs.Given.{IsOneScript, lines_of_core_0};
 ghost use Rattle.sanctum.specs.Headline.{plain_start, plain_run};
 
@@ -17,11 +17,9 @@ use std::alloc::{AllocError, Global};
 pub fn run_plain(alloc: Global, script: Script) -> Result<Finished, AllocError>
     requires { IsOneScript script.cores }
     ensures run { IfOk result (λ f. f ≡ plain_run (lines_of_core_0 script.cores)) }
-    ensures legal { IfOk result (λ f. Legal f.config f.logs) }
+    ensures legal { IfOk result (λ f. Legal f.config (events_of f.logs)) }
     ensures tables { IfOk result HasLastTables }
     ensures cores { IfOk result HasAllCores }
-    ensures printable { IfOk result (λ f. ArePrintable f.logs) }
-    ensures merge { IfOk result (λ f. CanMerge f.logs) }
 {
     let image = plain_image(alloc)?;
     solo(alloc, &image, script)

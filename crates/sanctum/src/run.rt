@@ -1,9 +1,10 @@
 //! The command `script`.
 
 ghost use Rattle.std.specs.Prelude.{◌≡◌, ◌≢◌};
-ghost use Rattle.hist.specs.Merging.{CanMerge};
+ghost use Rattle.hist.specs.Logged.{events_of};
+ghost use Rattle.hist.specs.Legal.{Legal};
 ghost use Rattle.sm_ports.specs.Causes.{Rose};
-ghost use Rattle.report.specs.Report.{report_text, HasAllCores, ArePrintable};
+ghost use Rattle.report.specs.Report.{report_text, HasAllCores};
 ghost use Rattle.solo.specs.Given.{IsOneScript, lines_of_core_0};
 ghost use Rattle.sanctum.specs.declared.words.Order.TheVariants as orders;
 ghost use Rattle.sanctum.specs.Headline.{Says, Prints, Ends, IsRunText};
@@ -11,7 +12,7 @@ ghost use Rattle.sanctum.specs.Headline.{Says, Prints, Ends, IsRunText};
 use crate::faults::refuse;
 use crate::plain::run_plain;
 use crate::status::Status;
-use hist::Finished;
+use hist::{Finished, legal_run_is_reported};
 use mon_types::Script;
 use report::report;
 use script_read::{ScriptError, read_script};
@@ -53,11 +54,12 @@ fn run_and_print<K: Sink>(alloc: Global, script: Script, out: &mut K) -> Status
 /// Prints the report of a finished run.
 fn print<K: Sink>(out: &mut K, finished: &Finished) -> Status
     requires cores { HasAllCores finished.now }
-    requires printable { ArePrintable finished.now.logs }
-    requires merge { CanMerge finished.now.logs }
+    requires legal { Legal finished.now.config (events_of finished.now.logs) }
     ensures prints { Prints (K.taken out.old) (K.taken out.new) (report_text finished.now) Status.Ok result }
     ensures write_fault { result ≡ Status.WriteFault → Rose (K.faults out.old) (K.faults out.new) }
 {
+    // States that the logs can be merged and printed.
+    legal_run_is_reported(finished);
     match report(finished, out) {
         Ok(()) => Status::Ok,
         Err(_) => Status::WriteFault,

@@ -1,6 +1,5 @@
 -- What the machine of one core logs is a legal history that leads to its state.
 use Rattle.std.proofs.Common.{◌≡◌, ℕ, ◌+◌, ◌<◌, Bool, true, false, cond, List, [], ◌∷◌, ◌++◌, length, None, is_some, refl, sym, ap, subst, ◌∙◌, arith}
-use Rattle.std.specs.List.{AllByRecursion}
 use Rattle.std.proofs.lemmas.Grind.{flat_map-append}
 use Rattle.std.proofs.lemmas.List.{append-nil, length-append}
 use Rattle.mon_types.specs.Shape.{Shape}
@@ -13,7 +12,7 @@ use Rattle.mon_types.specs.declared.script.Line.{Line}
 use Rattle.mon_types.specs.declared.script.Line.TheVariants as lines
 use Rattle.mon_model.specs.State.{State, start}
 use Rattle.mon_types.specs.Replies.{is_done}
-use Rattle.mon_model.specs.EveryReply.{reply_has, never_met}
+use Rattle.mon_model.specs.EveryReply.{never_met}
 use Rattle.mon_model.specs.EveryStep.{after_shape}
 use Rattle.mon_model.specs.Step.{reply_of, effect, after}
 use Rattle.hist.specs.declared.event.Entry.{Entry}
@@ -23,34 +22,9 @@ use Rattle.hist.specs.declared.event.Why.TheVariants as whys
 use Rattle.hist.specs.History.{entry_in, entries_of, digest_of, after_entry, after_entries}
 use Rattle.mon_model.specs.OnCore.{is_load_page}
 use Rattle.hist.specs.Legal.{AreTickets, AreOwn, AreLegalEntries, IsLegalEntry}
-use Rattle.report.specs.Calls.{HasFewWords, IsPrintable}
+use Rattle.hist.proofs.Growing.{tickets_more, own_more, legal_more, after_more}
 use Rattle.solo.specs.Solo.{Core, core_start, mode_now, entry_places, page_input, digest_for, entry_of, called, tick_cause, ticked, pc_set, reg_set, core_after, is_spent, stopped, core_from}
 use Rattle.solo.specs.Context.{saved_words}
-
--- ---- one more entry behind others
-
-all_more : {X : Type 0} (P : X → Type 0) (xs : List X) (x : X) → AllByRecursion P xs → P x → AllByRecursion P (xs ++ x ∷ [])
-all_more P [] x all here = (here, tt)
-all_more P (y ∷ xs) x all here = (all.0, all_more P xs x all.1 here)
-
-tickets_more : (k : ℕ) (es : List Entry) (e : Entry) → AreTickets k es → e.ticket ≡ k + length es → AreTickets k (es ++ e ∷ [])
-tickets_more k [] e tickets next = (omega (arith, next), tt)
-tickets_more k (x ∷ es) e tickets next = (tickets.0, tickets_more (k + 1) es e tickets.1 (omega (arith, next)))
-
--- tickets that follow one another ascend
-own_more : (core serial before k : ℕ) (es : List Entry) (e : Entry) → AreTickets k es → before < k → AreOwn core serial before es
-    → e.core ≡ core → e.serial ≡ serial + length es → e.ticket ≡ k + length es → AreOwn core serial before (es ++ e ∷ [])
-own_more core serial before k [] e tickets lt own same at next = (record { core = same; serial = omega (arith, at); ascends = omega (arith, next, lt) }, tt)
-own_more core serial before k (x ∷ es) e tickets lt own same at next =
-    (own.0, own_more core (serial + 1) x.ticket (k + 1) es e tickets.1 (omega (arith, tickets.0)) own.1 same (omega (arith, at)) (omega (arith, next)))
-
-legal_more : (s : State) (es : List Entry) (e : Entry) → AreLegalEntries s es → IsLegalEntry (after_entries s es) e → AreLegalEntries s (es ++ e ∷ [])
-legal_more s [] e legal here = (here, tt)
-legal_more s (x ∷ es) e legal here = (legal.0, legal_more (after_entry s x) es e legal.1 here)
-
-after_more : (s : State) (es : List Entry) (e : Entry) → after_entries s (es ++ e ∷ []) ≡ after_entry (after_entries s es) e
-after_more s [] e = refl
-after_more s (x ∷ es) e = after_more (after_entry s x) es e
 
 -- ---- one call
 
@@ -78,22 +52,6 @@ entry_legal c call = record {
   page = shown_page (is_done (reply_of c.state 0 call)) c.words call (length c.answers + length (entry_places c call));
 }
 
-few_words : (s : State) (core : ℕ) (call : Call) → HasFewWords (reply_of s core call)
-few_words s core call = reply_has HasFewWords (record {
-  done = omega arith;
-  told = λ a. omega arith;
-  told_four = λ a b c d. omega arith;
-  told_eight = λ words. omega arith;
-  invalid_value = tt;
-  invalid_state = tt;
-  access_denied = tt;
-  not_flushed = tt;
-  unsupported = tt;
-}) s core call
-
-entry_printable : (c : Core) (call : Call) → IsPrintable (entry_of c call)
-entry_printable c call = record { few = few_words c.state 0 call; page = (entry_legal c call).page }
-
 -- the entry leads to the state after the call
 after_is : (c : Core) (call : Call) → after_entry c.state (entry_of c call) ≡ (called c call).state
 after_is c call =
@@ -102,21 +60,20 @@ after_is c call =
 
 -- ---- the core at any time
 
--- So many entries of core 0 are a legal history that leads from a machine's start to this state, and each has a line in a report.
+-- So many entries of core 0 are a legal history that leads from a machine's start to this state.
 pub record IsHistory (shape : Shape) (made : ℕ) (s : State) (es : List Entry) : Type 0 where
   pub count : length es ≡ made
   pub tickets : AreTickets 1 es
   pub own : AreOwn 0 0 0 es
   pub legal : AreLegalEntries (start shape) es
   pub state : after_entries (start shape) es ≡ s
-  pub printable : AllByRecursion IsPrintable es
   pub machine : s.shape ≡ shape
 
 abbrev pub HasHistory : Shape → Core → Type 0
 HasHistory shape c = IsHistory shape c.made c.state (entries_of c.log)
 
 at_start : (shape : Shape) (first : Start) → HasHistory shape (core_start shape first)
-at_start shape first = record { count = refl; tickets = tt; own = tt; legal = tt; state = refl; printable = tt; machine = refl }
+at_start shape first = record { count = refl; tickets = tt; own = tt; legal = tt; state = refl; machine = refl }
 
 one_more : (shape : Shape) (c : Core) (call : Call) (es : List Entry) → IsHistory shape c.made c.state es → IsHistory shape (c.made + 1) (called c call).state (es ++ entry_of c call ∷ [])
 one_more shape c call es h =
@@ -128,7 +85,6 @@ one_more shape c call es h =
       own = own_more 0 0 0 1 es e h.tickets (omega arith) h.own refl (omega (arith, h.count)) next;
       legal = legal_more (start shape) es e h.legal (subst (λ (s : State). IsLegalEntry s e) (sym h.state) (entry_legal c call));
       state = after_more (start shape) es e ∙ ap (λ (s : State). after_entry s e) h.state ∙ after_is c call;
-      printable = all_more IsPrintable es e h.printable (entry_printable c call);
       machine = after_shape c.state 0 call (digest_for c.words call) (c.made + 1) ∙ h.machine;
     }
 

@@ -1,14 +1,14 @@
 //! A whole run.
 
 ghost use Rattle.std.specs.Prelude.{◌≡◌, IfOk};
-ghost use Rattle.hist.specs.Merging.{CanMerge};
+ghost use Rattle.hist.specs.Logged.{events_of};
 ghost use Rattle.hist.specs.Legal.{Legal, HasLastTables};
-ghost use Rattle.report.specs.Report.{HasAllCores, ArePrintable};
+ghost use Rattle.report.specs.Report.{HasAllCores};
 ghost use Rattle.solo.specs.Solo.{solo_run};
 ghost use Rattle.solo.specs.Given.{lines_of_core_0, first_start, IsOneScript, IsBareImage};
 
 use crate::machine::Machine;
-use hist::{Finished, legal_logs_merge};
+use hist::Finished;
 use mon_types::{Image, Line, Script, Start};
 use std::alloc::{AllocError, Global};
 
@@ -39,18 +39,13 @@ pub fn solo(alloc: Global, image: &Image, script: Script) -> Result<Finished, Al
     requires script { IsOneScript script.cores }
     ensures run { IfOk result (λ f. f ≡ solo_run image.now.config (first_start image.now.starts) (lines_of_core_0 script.cores)) }
     // Its log is a legal history, and its tables are those that the history leaves.
-    ensures legal { IfOk result (λ f. Legal f.config f.logs) }
+    ensures legal { IfOk result (λ f. Legal f.config (events_of f.logs)) }
     ensures tables { IfOk result HasLastTables }
-    // A report of it can be written.
     ensures cores { IfOk result HasAllCores }
-    ensures printable { IfOk result (λ f. ArePrintable f.logs) }
-    ensures merge { IfOk result (λ f. CanMerge f.logs) }
 {
     let mut machine = Machine::new(alloc, image.config, &start_of(image))?;
     let logs = Vec::with_capacity(alloc, 1)?;
     let answers = Vec::with_capacity(alloc, 1)?;
     machine.run(lines_of(&script));
-    // States that the one log can be merged.
-    legal_logs_merge();
     Ok(machine.finish(logs, answers))
 }

@@ -1,18 +1,12 @@
-use Rattle.std.proofs.Common.{[], refl, arith}
+use Rattle.std.proofs.Common.{[], refl, inl, arith}
+use Rattle.hist.specs.History.{entries_of, log_of}
+use Rattle.hist.specs.Legal.{AreOwn}
+use Rattle.hist.specs.Rows.{free_meets_flush}
+use Rattle.hist.proofs.ByHand.{by_two}
 use Rattle.hist.proofs.rows.free_meets_flush.Goals as goal
 
+pub returns-clause-legal : goal.returns-clause-legal
+returns-clause-legal c = record { count = refl; tickets = (refl, (refl, (refl, (refl, tt)))); own = by_two (λ core. AreOwn core 0 0 (entries_of (log_of free_meets_flush core))) (record { core = refl; serial = refl; ascends = omega arith }, (record { core = refl; serial = refl; ascends = omega arith }, tt)) (record { core = refl; serial = refl; ascends = omega arith }, (record { core = refl; serial = refl; ascends = omega arith }, tt)); entries = (record { reply = λ _. refl; tried = λ _. refl; page = refl }, (record { reply = λ no. absurd (cc); tried = λ no. absurd (cc); page = refl }, (record { reply = λ _. refl; tried = λ _. refl; page = refl }, (record { reply = λ _. refl; tried = λ _. refl; page = refl }, tt)))) }
+
 pub returns-clause-busy : goal.returns-clause-busy
-returns-clause-busy c = (
-  tt,
-  (
-    record {
-      core = omega arith;
-      other = omega arith;
-      tried = record { before = []; behind = []; planned_are = refl; tried_are = refl };
-      held = record { tried = refl; another = λ holder serial is. cc };
-      begun = omega arith;
-      under_way = tt;
-    },
-    (tt, (tt, tt)),
-  ),
-)
+returns-clause-busy c = record { entries = (tt, (record { core = omega arith; other = omega arith; tried = record { before = []; behind = []; planned_are = refl; tried_are = refl }; held = inl (record { tried = refl; another = λ holder serial is. cc }); begun = omega arith; under_way = tt }, (tt, (tt, tt)))); refused = λ core lt. tt }

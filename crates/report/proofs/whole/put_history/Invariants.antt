@@ -1,6 +1,7 @@
 use Rattle.std.proofs.Common.{◌≤◌}
 use Rattle.std.specs.List.{flat_map, AllByRecursion}
-use Rattle.report.specs.Calls.{call_line, IsPrintable}
+use Rattle.hist.specs.Printing.{IsPrintable}
+use Rattle.report.specs.Calls.{call_line}
 use Rattle.report.specs.Report.{calls_text}
 use Rattle.report.proofs.Pieces.{Begun}
 use Rattle.report.proofs.whole.put_history.Given as goal

@@ -1,6 +1,7 @@
 use Rattle.std.proofs.Common.{ap, subst}
 use Rattle.mon_types.specs.declared.script.Line.{Line}
 use Rattle.hist.specs.declared.finished.Finished.{Finished}
+use Rattle.hist.specs.Logged.{events_of}
 use Rattle.hist.specs.Legal.{Legal, HasLastTables}
 use Rattle.report.specs.Report.{report_text}
 use Rattle.sanctum.specs.declared.status.Status.TheVariants as answers
@@ -14,7 +15,7 @@ returns-in-Ok-clause-ends g c =
       text = report_text c.in-Ok.finished;
       may = record {
         report = ap report_text e.run;
-        legal = subst (λ (f : Finished). Legal f.config f.logs) e.run e.legal;
+        legal = subst (λ (f : Finished). Legal f.config (events_of f.logs)) e.run e.legal;
         tables = subst HasLastTables e.run e.tables;
       };
       printed = c.print.ensures.prints;

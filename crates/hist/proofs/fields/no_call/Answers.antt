@@ -1,0 +1,10 @@
+use Rattle.std.proofs.Common.{[], refl, arith}
+use Rattle.hist.specs.Rows.{r3}
+use Rattle.hist.proofs.ByHand.{not_held}
+use Rattle.hist.proofs.fields.no_call.Goals as goal
+
+pub returns-clause-entries : goal.returns-clause-entries
+returns-clause-entries c = record { entries = λ all. not_held _ _ r3 (λ no. no) all.0.held; refused = λ core lt. tt }
+
+pub returns-clause-held : goal.returns-clause-held
+returns-clause-held c = record { core = omega arith; other = omega arith; tried = record { before = []; behind = []; planned_are = refl; tried_are = refl }; held = λ held. not_held _ _ r3 (λ no. no) held; begun = tt; under_way = tt }
