@@ -1,4 +1,4 @@
--- A call that is not refused early has its arguments in range, and a load_page that answers Ok has read entries.
+-- A call that is not refused early has its arguments in range, and a load_page that answers Ok has read ptes.
 use Rattle.std.proofs.Common.{◌≡◌, ◌≢◌, ℕ, Bool, true, false, cond, ◌&&◌, List, [], ◌∷◌, Option, Some, None, refl, sym, ap, subst, ◌∙◌}
 use Rattle.mon_types.specs.Shape.{Shape, region_of_page}
 use Rattle.mon_types.specs.declared.thread.Mode.{Mode}
@@ -15,9 +15,9 @@ use Rattle.mon_model.specs.Step.{held_reply, or_else, reply_of}
 use Rattle.mon_model.specs.InRange.{IsInRange, not_refused}
 use Rattle.hist.specs.declared.event.PageInput.{PageInput}
 use Rattle.hist.specs.History.{digest_of}
-use Rattle.mon_enclaves.specs.Entries.{leaf_path, page_reply}
-use Rattle.solo.specs.Entries.{path_in, held_places}
-use Rattle.solo.specs.Solo.{Core, unless_early, entry_places, page_input, digest_for}
+use Rattle.mon_enclaves.specs.ByWords.{leaf_path, page_reply}
+use Rattle.solo.specs.Ptes.{path_in, held_places}
+use Rattle.solo.specs.Solo.{Core, unless_early, pte_places, page_input, digest_for}
 
 -- ---- not refused early
 
@@ -56,22 +56,22 @@ fits_record s e va page src perms h =
 pub done_held : (s : State) (core : ℕ) (call : Call) → is_done (reply_of s core call) ≡ true → is_done (held_reply s core call) ≡ true
 done_held s core call h = subst (λ (o : Option Reply). is_done (or_else o (held_reply s core call)) ≡ true) (done_not_early s core call h) h
 
-load_page_reads : (c : Core) (e va page src perms : ℕ) → is_done (reply_of c.state 0 (calls.LoadPage e va page src perms)) ≡ true → entry_places c (calls.LoadPage e va page src perms) ≢ []
+load_page_reads : (c : Core) (e va page src perms : ℕ) → is_done (reply_of c.state 0 (calls.LoadPage e va page src perms)) ≡ true → pte_places c (calls.LoadPage e va page src perms) ≢ []
 load_page_reads c e va page src perms h none =
     let call : Call = calls.LoadPage e va page src perms in
     let s : State = c.state in
     let path : List ℕ = path_in s.shape c.words (enclave_at s e) va leaf_path in
-    let early_none : entry_places c call ≡ held_places s c.words call = ap (λ (o : Option Reply). unless_early o (held_places s c.words call)) (done_not_early s 0 call h) in
+    let early_none : pte_places c call ≡ held_places s c.words call = ap (λ (o : Option Reply). unless_early o (held_places s c.words call)) (done_not_early s 0 call h) in
     let held : held_places s c.words call ≡ path = ap (λ (b : Bool). cond b path []) (fits_record s e va page src perms (done_held s 0 call h)) in
     let empty : path ≡ [] = sym held ∙ sym early_none ∙ none in
     cc
 
-no_page : (c : Core) (call : Call) (at : ℕ) → is_done (reply_of c.state 0 call) ≡ true → entry_places c call ≡ [] → page_input c.words call at ≡ None
+no_page : (c : Core) (call : Call) (at : ℕ) → is_done (reply_of c.state 0 call) ≡ true → pte_places c call ≡ [] → page_input c.words call at ≡ None
 no_page c (calls.LoadPage e va page src perms) at h none = absurd (load_page_reads c e va page src perms h none)
 no_page c _ at h none = refl
 
 -- what a call that answers Ok was to read is what its entry says
-pub input_is : (c : Core) (call : Call) (places : List ℕ) (input : Option PageInput) (at : ℕ) → is_done (reply_of c.state 0 call) ≡ true → places ≡ entry_places c call
+pub input_is : (c : Core) (call : Call) (places : List ℕ) (input : Option PageInput) (at : ℕ) → is_done (reply_of c.state 0 call) ≡ true → places ≡ pte_places c call
     → (places ≢ [] → input ≡ page_input c.words call at) → (places ≡ [] → input ≡ None) → input ≡ page_input c.words call at
 input_is c call [] input at h is read none = none refl ∙ sym (no_page c call at h (sym is))
 input_is c call (place ∷ places) input at h is read none = read (λ (e : place ∷ places ≡ []). cc)

@@ -1,4 +1,3 @@
-pub mod Pages
 pub mod Paths
 pub mod Done
 pub mod Made

@@ -9,14 +9,14 @@ use Rattle.mon_model.specs.Tries.{tries, tried_set}
 use Rattle.hist.specs.declared.event.PageInput.{PageInput}
 use Rattle.hist.specs.declared.event.Event.TheVariants as events
 use Rattle.hist.specs.History.{digest_of}
-use Rattle.solo.specs.Memory.{word_at}
-use Rattle.solo.specs.Solo.{Core, entry_places, source_words, page_input, stored, switched, os_kept, called}
+use Rattle.dram_map.specs.Words.{word_at}
+use Rattle.solo.specs.Solo.{Core, pte_places, source_words, page_input, stored, switched, os_kept, called}
 use Rattle.solo.proofs.Done.{input_is, digest_is}
 
 -- the parts of a core after a call, where the places, the page, the reply and the tried objects are these
 pub record HasParts (c : Core) (call : Call) (places : List ℕ) (input page : Option PageInput) (reply : Reply) (tried : Tried) (d : Core) : Type 0 where
   pub ok : is_done (reply_of c.state 0 call) ≡ true
-  pub path : places ≡ entry_places c call
+  pub path : places ≡ pte_places c call
   pub read : places ≢ [] → input ≡ page_input c.words call (length c.answers + length places)
   pub unread : places ≡ [] → input ≡ None
   pub told : page ≡ input
@@ -33,20 +33,20 @@ pub record HasParts (c : Core) (call : Call) (places : List ℕ) (input page : O
 pub made_so : (c : Core) (call : Call) (places : List ℕ) (input page : Option PageInput) (reply : Reply) (tried : Tried) (d : Core) → HasParts c call places input page reply tried d → d ≡ called c call
 made_so c call places input page reply tried d p =
     let at : ℕ = length c.answers + length places in
-    let same_at : at ≡ length c.answers + length (entry_places c call) = ap (λ (l : List ℕ). length c.answers + length l) p.path in
+    let same_at : at ≡ length c.answers + length (pte_places c call) = ap (λ (l : List ℕ). length c.answers + length l) p.path in
     let input_so : input ≡ page_input c.words call at = input_is c call places input at p.ok p.path p.read p.unread in
     let state : d.state ≡ (called c call).state =
     p.state ∙ ap (λ (i : Option PageInput). after c.state 0 call (digest_of i) (c.made + 1)) input_so ∙ ap (λ (digest : List ℕ). after c.state 0 call digest (c.made + 1)) (digest_is c.words call at) in
     let context : d.context ≡ (called c call).context = p.context ∙ sym (ap (λ (b : Bool). cond b (switched c call) c.context) p.ok) in
     let os : d.os ≡ (called c call).os = p.os ∙ sym (ap (λ (b : Bool). cond b (os_kept c call) c.os) p.ok) in
     let words : d.words ≡ (called c call).words =
-    p.words ∙ ap (λ (l : List ℕ). stored c.state.shape call l c.words) p.path ∙ sym (ap (λ (b : Bool). cond b (stored c.state.shape call (entry_places c call) c.words) c.words) p.ok) in
+    p.words ∙ ap (λ (l : List ℕ). stored c.state.shape call l c.words) p.path ∙ sym (ap (λ (b : Bool). cond b (stored c.state.shape call (pte_places c call) c.words) c.words) p.ok) in
     let answers : d.answers ≡ (called c call).answers =
     p.answers ∙ append_assoc c.answers (map (word_at c.words) places) (source_words c.words call)
     ∙ ap (λ (l : List ℕ). c.answers ++ (map (word_at c.words) l ++ source_words c.words call)) p.path
-    ∙ sym (ap (λ (b : Bool). c.answers ++ (map (word_at c.words) (entry_places c call) ++ cond b (source_words c.words call) [])) p.ok) in
-    let page_so : page ≡ cond (is_done (reply_of c.state 0 call)) (page_input c.words call (length c.answers + length (entry_places c call))) None =
-    p.told ∙ input_so ∙ ap (page_input c.words call) same_at ∙ sym (ap (λ (b : Bool). cond b (page_input c.words call (length c.answers + length (entry_places c call))) None) p.ok) in
+    ∙ sym (ap (λ (b : Bool). c.answers ++ (map (word_at c.words) (pte_places c call) ++ cond b (source_words c.words call) [])) p.ok) in
+    let page_so : page ≡ cond (is_done (reply_of c.state 0 call)) (page_input c.words call (length c.answers + length (pte_places c call))) None =
+    p.told ∙ input_so ∙ ap (page_input c.words call) same_at ∙ sym (ap (λ (b : Bool). cond b (page_input c.words call (length c.answers + length (pte_places c call))) None) p.ok) in
     let log : d.log ≡ (called c call).log =
     p.log ∙ (λ i. c.log ++ events.Entry record { ticket = c.made + 1; core = 0; serial = c.made; call = call; page = page_so i; reply = p.answers_so i; tried = p.objects i } ∷ []) in
     λ i. record { state = state i; made = p.made i; context = context i; os = os i; words = words i; answers = answers i; log = log i }

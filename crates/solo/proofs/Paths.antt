@@ -1,17 +1,16 @@
--- The path of an address, entry by entry.
+-- The path of an address, pte by pte.
 use Rattle.std.proofs.Common.{◌≡◌, ℕ, suc, ◌+◌, ◌-◌, ◌<◌, Bool, true, false, cond, List, [], ◌∷◌, ◌++◌, append_assoc, Some, None, refl, ap, sym, ◌∙◌, arith}
 use Rattle.mon_types.specs.Shape.{Shape}
-use Rattle.mon_enclaves.specs.Entries.{leads_to_table}
-use Rattle.solo.specs.Memory.{word_at}
-use Rattle.solo.specs.Entries.{entry_place, page_in, path_from}
+use Rattle.dram_map.specs.Words.{word_at}
+use Rattle.sv39_pte.specs.Tables.{pte_place, leads_to_table, page_led_to, path_from}
 
--- a path of at least one entry
+-- a path of at least one pte
 begins : (shape : Shape) (words : List ℕ) (va level count n page : ℕ) → count ≡ suc n
     → path_from shape words va level count page
-    ≡ entry_place page level va ∷ cond (leads_to_table shape (word_at words (entry_place page level va))) (path_from shape words va (level - 1) n (page_in (word_at words (entry_place page level va)))) []
+    ≡ pte_place page level va ∷ cond (leads_to_table shape (word_at words (pte_place page level va))) (path_from shape words va (level - 1) n (page_led_to (word_at words (pte_place page level va)))) []
 begins shape words va level count n page h = rw h
 
--- where an entry leads to a table, the rest of the path follows
+-- where a pte leads to a table, the rest of the path follows
 led : (leads : Bool) (table at : ℕ) (rest : ℕ → List ℕ) → Some table ≡ cond leads (Some at) None → cond leads (rest at) [] ≡ rest table
 led true table at rest h =
     let same : at ≡ table = cc in
@@ -23,28 +22,28 @@ ended : (leads : Bool) (at : ℕ) (rest : List ℕ) → None ≡ cond leads (Som
 ended true at rest h = cc
 ended false at rest h = refl
 
--- the places so far and what is left of the path, after an entry that leads to a table
+-- the places so far and what is left of the path, after a pte that leads to a table
 pub one_more : (shape : Shape) (words whole places : List ℕ) (va step count page place word table : ℕ) → step < count
     → whole ≡ places ++ path_from shape words va (2 - step) (count - step) page
-    → place ≡ entry_place page (2 - step) va → word ≡ word_at words place
-    → Some table ≡ cond (leads_to_table shape word) (Some (page_in word)) None
+    → place ≡ pte_place page (2 - step) va → word ≡ word_at words place
+    → Some table ≡ cond (leads_to_table shape word) (Some (page_led_to word)) None
     → whole ≡ (places ++ place ∷ []) ++ path_from shape words va (2 - (step + 1)) (count - (step + 1)) table
 one_more shape words whole places va step count page place word table below so_far here read found =
     let left : count - step ≡ suc (count - (step + 1)) = omega arith in
     let level : 2 - step - 1 ≡ 2 - (step + 1) = omega arith in
-    let rest = rw (read, here) at (led (leads_to_table shape word) table (page_in word) (path_from shape words va (2 - step - 1) (count - (step + 1))) found) in
+    let rest = rw (read, here) at (led (leads_to_table shape word) table (page_led_to word) (path_from shape words va (2 - step - 1) (count - (step + 1))) found) in
     let tail = rest ∙ ap (λ (n : ℕ). path_from shape words va n (count - (step + 1)) table) level in
-    let head = begins shape words va (2 - step) (count - step) (count - (step + 1)) page left ∙ ap (λ (l : List ℕ). entry_place page (2 - step) va ∷ l) tail in
-    rw here (so_far ∙ ap (λ (l : List ℕ). places ++ l) head ∙ sym (append_assoc places (entry_place page (2 - step) va ∷ []) _))
+    let head = begins shape words va (2 - step) (count - step) (count - (step + 1)) page left ∙ ap (λ (l : List ℕ). pte_place page (2 - step) va ∷ l) tail in
+    rw here (so_far ∙ ap (λ (l : List ℕ). places ++ l) head ∙ sym (append_assoc places (pte_place page (2 - step) va ∷ []) _))
 
 -- the same after one that leads to none
 pub last_one : (shape : Shape) (words whole places : List ℕ) (va step count page place word : ℕ) → step < count
     → whole ≡ places ++ path_from shape words va (2 - step) (count - step) page
-    → place ≡ entry_place page (2 - step) va → word ≡ word_at words place
-    → None ≡ cond (leads_to_table shape word) (Some (page_in word)) None
+    → place ≡ pte_place page (2 - step) va → word ≡ word_at words place
+    → None ≡ cond (leads_to_table shape word) (Some (page_led_to word)) None
     → whole ≡ places ++ place ∷ []
 last_one shape words whole places va step count page place word below so_far here read found =
     let left : count - step ≡ suc (count - (step + 1)) = omega arith in
-    let rest = rw (read, here) at (ended (leads_to_table shape word) (page_in word) (path_from shape words va (2 - step - 1) (count - (step + 1)) (page_in word)) found) in
-    let head = begins shape words va (2 - step) (count - step) (count - (step + 1)) page left ∙ ap (λ (l : List ℕ). entry_place page (2 - step) va ∷ l) rest in
+    let rest = rw (read, here) at (ended (leads_to_table shape word) (page_led_to word) (path_from shape words va (2 - step - 1) (count - (step + 1)) (page_led_to word)) found) in
+    let head = begins shape words va (2 - step) (count - step) (count - (step + 1)) page left ∙ ap (λ (l : List ℕ). pte_place page (2 - step) va ∷ l) rest in
     rw here (so_far ∙ ap (λ (l : List ℕ). places ++ l) head)

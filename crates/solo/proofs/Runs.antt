@@ -23,7 +23,7 @@ use Rattle.hist.specs.History.{entry_in, entries_of, digest_of, after_entry, aft
 use Rattle.mon_model.specs.OnCore.{is_load_page}
 use Rattle.hist.specs.Legal.{AreTickets, AreOwn, AreLegalEntries, IsLegalEntry}
 use Rattle.hist.proofs.Growing.{tickets_more, own_more, legal_more, after_more}
-use Rattle.solo.specs.Solo.{Core, core_start, mode_now, entry_places, page_input, digest_for, entry_of, called, tick_cause, ticked, pc_set, reg_set, core_after, is_spent, stopped, core_from}
+use Rattle.solo.specs.Solo.{Core, core_start, mode_now, pte_places, page_input, digest_for, entry_of, called, tick_cause, ticked, pc_set, reg_set, core_after, is_spent, stopped, core_from}
 use Rattle.solo.specs.Context.{saved_words}
 
 -- ---- one call
@@ -49,14 +49,14 @@ entry_legal : (c : Core) (call : Call) → IsLegalEntry c.state (entry_of c call
 entry_legal c call = record {
   reply = λ _. refl;
   tried = λ _. refl;
-  page = shown_page (is_done (reply_of c.state 0 call)) c.words call (length c.answers + length (entry_places c call));
+  page = shown_page (is_done (reply_of c.state 0 call)) c.words call (length c.answers + length (pte_places c call));
 }
 
 -- the entry leads to the state after the call
 after_is : (c : Core) (call : Call) → after_entry c.state (entry_of c call) ≡ (called c call).state
 after_is c call =
     ap (λ (b : Bool). cond b c.state (after c.state 0 call (digest_of (entry_of c call).page) (c.made + 1))) (never_met c.state 0 call)
-    ∙ shown_digest (is_done (reply_of c.state 0 call)) c.state call c.words (length c.answers + length (entry_places c call)) (c.made + 1)
+    ∙ shown_digest (is_done (reply_of c.state 0 call)) c.state call c.words (length c.answers + length (pte_places c call)) (c.made + 1)
 
 -- ---- the core at any time
 

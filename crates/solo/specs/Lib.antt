@@ -1,6 +1,5 @@
 pub mod Context
-pub mod Memory
-pub mod Entries
+pub mod Ptes
 pub mod Solo
 pub mod Kept
 pub mod Given

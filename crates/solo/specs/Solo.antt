@@ -1,6 +1,6 @@
 -- The machine of one core, said directly: what a script makes of it, line by line, with the sequential monitor for calls, one list of words for DRAM, and two counts for the budget. It has no moves and no locks. This project's own.
 use Rattle.std.specs.Prelude.{ℕ, ◌+◌, ◌-◌, ◌*◌, Bool, nat_lt, ◌||◌, if◌then◌else◌, List, [], ◌∷◌, ◌++◌, map, length, replicate, slice_index, Option, Some, None}
-use Rattle.mon_types.specs.Shape.{Shape, page_total}
+use Rattle.mon_types.specs.Shape.{Shape}
 use Rattle.mon_types.specs.declared.image.Start.{Start}
 use Rattle.mon_types.specs.declared.thread.Mode.{Mode}
 use Rattle.mon_types.specs.declared.thread.Mode.TheVariants as modes
@@ -25,8 +25,9 @@ use Rattle.hist.specs.declared.finished.Finished.{Finished}
 use Rattle.report.specs.Report.{report_text}
 use Rattle.solo.specs.declared.context.Context.{Context}
 use Rattle.solo.specs.Context.{begun, entered, returned, with_register, saved_words, restored}
-use Rattle.solo.specs.Memory.{word_at, page_of, copied, cleared}
-use Rattle.solo.specs.Entries.{held_places, table_to, leaf_to, put_entry}
+use Rattle.dram_map.specs.Words.{word_at, zero_words, words_of_page, page_copied, region_cleared}
+use Rattle.sv39_pte.specs.Tables.{pointer_pte, leaf_pte}
+use Rattle.solo.specs.Ptes.{held_places, pte_put}
 
 -- The core between two lines: the monitor's state; how many calls it made, which are all there are; its pc and registers; those of the OS, kept while it is inside an enclave; the words of DRAM; the words that loads gave it; and its log.
 pub record Core : Type 0 where
@@ -45,7 +46,7 @@ core_start shape first = record {
   made = 0;
   context = begun first;
   os = begun first;
-  words = replicate (512 * page_total shape) 0;
+  words = zero_words shape;
   answers = [];
   log = [];
 }
@@ -60,13 +61,13 @@ abbrev pub unless_early : Option Reply → List ℕ → List ℕ
 unless_early None places = places
 unless_early (Some refusal) places = []
 
--- the places of the entries that the call reads, none where it is refused early
-abbrev pub entry_places : Core → Call → List ℕ
-entry_places c call = unless_early (early c.state.shape (mode_now c) call) (held_places c.state c.words call)
+-- the places of the page-table entries (ptes) that the call reads, none where it is refused early
+abbrev pub pte_places : Core → Call → List ℕ
+pte_places c call = unless_early (early c.state.shape (mode_now c) call) (held_places c.state c.words call)
 
 -- the words that a load_page copies; other calls copy none
 abbrev pub source_words : List ℕ → Call → List ℕ
-source_words words (calls.LoadPage e va page src perms) = page_of words src
+source_words words (calls.LoadPage e va page src perms) = words_of_page words src
 source_words words _ = []
 
 -- the digest of these, zeros for other calls, which use none
@@ -74,12 +75,12 @@ abbrev pub no_digest : List ℕ
 no_digest = replicate 32 0
 
 abbrev pub digest_for : List ℕ → Call → List ℕ
-digest_for words (calls.LoadPage e va page src perms) = page_digest (page_of words src)
+digest_for words (calls.LoadPage e va page src perms) = page_digest (words_of_page words src)
 digest_for words _ = no_digest
 
 -- what the entry of a load_page that answers Ok says of the page: its digest, and the place of its first word among the answers
 abbrev pub page_input : List ℕ → Call → ℕ → Option PageInput
-page_input words (calls.LoadPage e va page src perms) at = Some record { digest = page_digest (page_of words src); at = at }
+page_input words (calls.LoadPage e va page src perms) at = Some record { digest = page_digest (words_of_page words src); at = at }
 page_input words _ at = None
 
 -- the entry of a call; the core's calls are all there are, so each draws the next ticket
@@ -89,22 +90,23 @@ entry_of c call = record {
   core = 0;
   serial = c.made;
   call = call;
-  page = if is_done (reply_of c.state 0 call) then page_input c.words call (length c.answers + length (entry_places c call)) else None;
+  page = if is_done (reply_of c.state 0 call) then page_input c.words call (length c.answers + length (pte_places c call)) else None;
   reply = reply_of c.state 0 call;
   tried = tried_set (tries c.state 0 call);
 }
 
--- the words that the call loads: the entries, and the source of a load_page that answers Ok
+-- the words that the call loads: the ptes, and the source of a load_page that answers Ok
 abbrev pub loaded_by : Core → Call → List ℕ
 loaded_by c call =
-    map (word_at c.words) (entry_places c call) ++ (if is_done (reply_of c.state 0 call) then source_words c.words call else [])
+    map (word_at c.words) (pte_places c call) ++ (if is_done (reply_of c.state 0 call) then source_words c.words call else [])
 
--- DRAM after Ok, where the entries at these places were read: zeros in each page of a region that is free now; the entry of a table, whose page is not written; a copy of the source page, and then its entry; the entry of a reserved page
+-- DRAM after Ok, where the ptes at these places were read: zeros in each page of a region that is free now; the pte
+-- of a table, whose page is not written; a copy of the source page, and then its pte; the pte of a reserved page
 abbrev pub stored : Shape → Call → List ℕ → List ℕ → List ℕ
-stored shape (calls.Free r) places words = cleared shape r words (page_total shape)
-stored shape (calls.LoadTable e va level page) places words = put_entry places (table_to page) words
-stored shape (calls.LoadPage e va page src perms) places words = put_entry places (leaf_to page perms) (copied words src page)
-stored shape (calls.Reserve e va page perms) places words = put_entry places (leaf_to page perms) words
+stored shape (calls.Free r) places words = region_cleared shape r words
+stored shape (calls.LoadTable e va level page) places words = pte_put words places (pointer_pte page)
+stored shape (calls.LoadPage e va page src perms) places words = pte_put (page_copied words src page) places (leaf_pte page perms)
+stored shape (calls.Reserve e va page perms) places words = pte_put words places (leaf_pte page perms)
 stored shape _ places words = words
 
 -- pc and registers after Ok: enter begins the thread, exit and aex give back the OS's, restore takes what was saved, and no other call changes any
@@ -129,7 +131,7 @@ called c call =
       made = c.made + 1;
       context = if is_ok then switched c call else c.context;
       os = if is_ok then os_kept c call else c.os;
-      words = if is_ok then stored c.state.shape call (entry_places c call) c.words else c.words;
+      words = if is_ok then stored c.state.shape call (pte_places c call) c.words else c.words;
       answers = c.answers ++ loaded_by c call;
       log = c.log ++ events.Entry (entry_of c call) ∷ [];
     }

@@ -7,18 +7,20 @@ ghost use Rattle.mon_types.specs.Replies.{is_done};
 ghost use Rattle.mon_types.specs.Modes.{own_thread};
 ghost use Rattle.mon_model.specs.InRange.{IsInRange};
 ghost use Rattle.hist.specs.History.{digest_of};
-ghost use Rattle.solo.specs.Memory.{word_at};
-ghost use Rattle.solo.specs.Entries.{put_entry};
-ghost use Rattle.solo.specs.Solo.{entry_places, source_words, page_input, stored, switched, os_kept, called, event_budget, answer_budget, line_events, line_answers};
+ghost use Rattle.dram_map.specs.Addresses.{word_total};
+ghost use Rattle.dram_map.specs.Words.{word_at};
+ghost use Rattle.solo.specs.Ptes.{pte_put};
+ghost use Rattle.solo.specs.Solo.{pte_places, source_words, page_input, stored, switched, os_kept, called, event_budget, answer_budget, line_events, line_answers};
 
 use crate::answers::Answers;
 use crate::context::Context;
-use crate::entries::{entry_of_leaf, entry_of_table, page_number, places_read};
 use crate::machine::Machine;
-use crate::memory::Memory;
+use crate::ptes::{page_number, places_read};
+use dram_map::Memory;
 use hist::{Entry, Event, PageInput};
 use mon_measure::page_digest;
 use mon_types::{Call, Config, Mode, Reply, Thread};
+use sv39_pte::{leaf_pte, pointer_pte};
 
 /// The digest that a call other than load_page is given.
 const NO_DIGEST: [u8; 32] = [0; 32];
@@ -39,7 +41,7 @@ fn own_thread_of(mode: Mode) -> u8
     }
 }
 
-/// What a load_page is to read, where the entries at these places were read, after `given` answers; its
+/// What a load_page is to read, where the ptes at these places were read, after `given` answers; its
 /// page was refused before where there are none. Other calls read no page.
 fn input_of(
     config: &Config,
@@ -48,7 +50,7 @@ fn input_of(
     places: &[u64],
     given: usize,
 ) -> Option<PageInput>
-    requires size { length memory.now ≡ 512 * page_total config.now }
+    requires size { length memory.now ≡ word_total config.now }
     requires pages { page_total config.now < 65536 }
     requires range { places.now ≢ [] → IsInRange config.now call.now }
     requires few { given + length places.now < 2 ^ 32 }
@@ -82,7 +84,7 @@ fn digest_in(input: &Option<PageInput>) -> [u8; 32]
 }
 
 /// Gives the words at these places as answers.
-fn give_entries(answers: &mut Answers, memory: &Memory, places: &[u64])
+fn give_ptes(answers: &mut Answers, memory: &Memory, places: &[u64])
     requires { length answers.old + length places.now ≤ 1048576 }
     ensures { answers.new ≡ answers.old ++ map (word_at memory.now) places.now }
 {
@@ -93,7 +95,7 @@ fn give_entries(answers: &mut Answers, memory: &Memory, places: &[u64])
 
 /// Gives the words of the page that a load_page copies.
 fn give_source(answers: &mut Answers, config: &Config, memory: &Memory, call: &Call)
-    requires size { length memory.now ≡ 512 * page_total config.now }
+    requires size { length memory.now ≡ word_total config.now }
     requires pages { page_total config.now < 65536 }
     requires range { IsInRange config.now call.now }
     requires room { length answers.old + 512 ≤ 1048576 }
@@ -104,24 +106,28 @@ fn give_source(answers: &mut Answers, config: &Config, memory: &Memory, call: &C
     }
 }
 
-/// Stores an entry at the last of these places.
-fn put_entry(memory: &mut Memory, places: &[u64], entry: u64)
-    ensures { memory.new ≡ put_entry places.now entry memory.old }
+/// Stores a pte at the last of these places.
+fn put_pte(memory: &mut Memory, places: &[u64], pte: u64)
+    ensures { memory.new ≡ pte_put memory.old places.now pte }
 {
-    memory.put(places.last().copied(), entry);
+    memory.put(places.last().copied(), pte);
 }
 
-/// Stores what a call that answers Ok stores, where it read the entries at these places.
+/// Stores what a call that answers Ok stores, where it read the ptes at these places.
 fn store(config: &Config, memory: &mut Memory, call: &Call, places: &[u64])
-    requires size { length memory.old ≡ 512 * page_total config.now }
+    requires size { length memory.old ≡ word_total config.now }
     requires pages { page_total config.now < 65536 }
     requires range { IsInRange config.now call.now }
     ensures stored { memory.new ≡ stored config.now call.now places.now memory.old }
-    ensures size { length memory.new ≡ 512 * page_total config.now }
+    ensures size { length memory.new ≡ word_total config.now }
 {
     match *call {
         Call::Free { r } => memory.clear_region(config, r),
-        Call::LoadTable { page, .. } => put_entry(memory, places, entry_of_table(page)),
+        Call::LoadTable { page, .. } => put_pte(
+            memory,
+            places,
+            pointer_pte(page_number(config, page)),
+        ),
         Call::LoadPage {
             page,
             src,
@@ -129,10 +135,10 @@ fn store(config: &Config, memory: &mut Memory, call: &Call, places: &[u64])
             ..
         } => {
             memory.copy_page(page_number(config, src), page_number(config, page));
-            put_entry(memory, places, entry_of_leaf(page, perms));
+            put_pte(memory, places, leaf_pte(page_number(config, page), perms));
         }
         Call::Reserve { page, perms, .. } => {
-            put_entry(memory, places, entry_of_leaf(page, perms));
+            put_pte(memory, places, leaf_pte(page_number(config, page), perms));
         }
         _ => {}
     }
@@ -205,7 +211,7 @@ impl Machine {
             tried,
         }));
         self.made += 1;
-        give_entries(&mut self.answers, &self.memory, &places);
+        give_ptes(&mut self.answers, &self.memory, &places);
         if done {
             give_source(&mut self.answers, &self.config, &self.memory, call);
             store(&self.config, &mut self.memory, call, &places);

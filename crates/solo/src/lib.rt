@@ -4,10 +4,9 @@
 mod answers;
 mod calls;
 mod context;
-mod entries;
 mod lines;
 mod machine;
-mod memory;
+mod ptes;
 mod run;
 #[cfg(test)]
 mod tests;

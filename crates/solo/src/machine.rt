@@ -6,7 +6,7 @@ ghost use Rattle.solo.specs.Solo.{core_start, finished_by};
 
 use crate::answers::Answers;
 use crate::context::Context;
-use crate::memory::Memory;
+use dram_map::Memory;
 use hist::{Finished, Log};
 use mon_seq::Monitor;
 use mon_types::{Config, Items, Start};

@@ -124,7 +124,7 @@ fn expect_words(rt: &impl Abort, finished: &Finished, words: &[(usize, u64)]) {
 }
 
 #[test]
-fn entries_of_tables_stand_in_memory(rt: HostRuntime) -> Result<(), Fail> {
+fn ptes_stand_in_memory(rt: HostRuntime) -> Result<(), Fail> {
     let reserve = Call::Reserve {
         e: 0,
         va: 69632,
@@ -163,7 +163,7 @@ fn freed_pages_hold_zeros(rt: HostRuntime) -> Result<(), Fail> {
 }
 
 #[test]
-fn a_page_begins_behind_its_entries(rt: HostRuntime) -> Result<(), Fail> {
+fn a_page_begins_behind_its_ptes(rt: HostRuntime) -> Result<(), Fail> {
     let finished = run(rt.alloc(), &[])?;
     let answers = finished
         .answers

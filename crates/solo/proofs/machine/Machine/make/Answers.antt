@@ -6,8 +6,8 @@ use Rattle.mon_model.specs.InRange.{IsInRange}
 use Rattle.mon_types.specs.Replies.{is_done}
 use Rattle.mon_model.specs.Step.{reply_of, after}
 use Rattle.mon_seq.specs.Sequential.{Sequential}
-use Rattle.solo.specs.Memory.{word_at}
-use Rattle.solo.specs.Entries.{held_places}
+use Rattle.dram_map.specs.Words.{word_at}
+use Rattle.solo.specs.Ptes.{held_places}
 use Rattle.solo.specs.Solo.{Core, unless_early, source_words, page_input, stored, switched, os_kept, called}
 use Rattle.solo.proofs.Done.{places_in_range, done_in_range}
 use Rattle.solo.proofs.Made.{made_so}
@@ -52,6 +52,6 @@ returns-then-done c =
           ∙ ap (λ (shape : Shape). stored shape c.args.call.now c.deref.result.now c.self.inside.memory) machine;
       answers = c.give_source.ensures
           ∙ ap (λ (l : List ℕ). l ++ source_words c.self.inside.memory c.args.call.now)
-          (c.give_entries.ensures ∙ ap (λ (l : List ℕ). c.self.inside.answers ++ map (word_at c.self.inside.memory) l) (c.deref-2.ensures.0 ∙ sym c.deref.ensures.0));
+          (c.give_ptes.ensures ∙ ap (λ (l : List ℕ). c.self.inside.answers ++ map (word_at c.self.inside.memory) l) (c.deref-2.ensures.0 ∙ sym c.deref.ensures.0));
       log = c.add.ensures.events;
     } ∙ ap (λ (x : Core). called x c.args.call.now) c.self.view_is

@@ -1,63 +1,39 @@
-//! The entries of page tables that a call reads.
+//! The page-table entries (ptes) that a call reads.
 
-ghost use Rattle.std.specs.Prelude.{◌≡◌, ◌<◌, ◌≤◌, [], length, Some, None, IfSome, if◌then◌else◌};
+ghost use Rattle.std.specs.Prelude.{◌≡◌, ◌<◌, ◌≤◌, [], length, if◌then◌else◌};
 ghost use Rattle.mon_types.specs.Shape.{page_total};
 ghost use Rattle.mon_model.specs.State.{State, mode_of};
 ghost use Rattle.mon_types.specs.Replies.{is_done};
 ghost use Rattle.mon_model.specs.Early.{early};
-ghost use Rattle.mon_enclaves.specs.Entries.{leads_to_table, table_path};
+ghost use Rattle.sv39_pte.specs.Tables.{path_below};
+ghost use Rattle.mon_enclaves.specs.ByWords.{table_path};
 ghost use Rattle.mon_model.specs.InRange.{IsInRange};
-ghost use Rattle.solo.specs.Entries.{entry_place, page_in, path_from, path_in, held_places, table_to, leaf_to};
+ghost use Rattle.solo.specs.Ptes.{path_in, held_places};
 ghost use Rattle.solo.specs.Solo.{unless_early};
 
-use crate::memory::Memory;
 use arrayvec::ArrayVec;
+use dram_map::Memory;
 use lock_plan::refuse_early;
 use mon_enclaves::{decide_page, decide_reserve, decide_table};
 use mon_seq::Monitor;
 use mon_types::{Call, Config, Enclave, Region, Reply};
+use sv39_pte::{pte_place, table_led_to};
 
-/// The page frame number of DRAM's first page.
-const FIRST_FRAME: u64 = 0x80000;
-
-/// How many words the path of a page or a reserved page has.
+/// How many ptes the path of a page or a reserved page has.
 const LEAF_PATH: u8 = 3;
 
-/// Where an address's entry stands, in the table of this level on this page.
-fn entry_place(page: u64, level: u8, va: u64) -> u64
-    requires page { page < 65536 }
-    requires level { level < 3 }
-    ensures { result ≡ entry_place page level va }
-{
-    512 * page + (va >> (12 + 9 * level)) % 512
-}
-
-/// The page to which an entry leads, if it leads to one of DRAM.
-fn table_of(config: &Config, word: u64) -> Option<u64>
-    ensures table { result ≡ (if leads_to_table config.now word then Some (page_in word) else None) }
-    ensures small { IfSome result (λ page. page < 65536) }
-{
-    let frame = (word >> 10) % (1 << 44);
-    let page = frame.checked_sub(FIRST_FRAME)?;
-    if page < u64::from(config.total_pages()) {
-        Some(page)
-    } else {
-        None
-    }
-}
-
-/// The places of so many entries on an address's path, from the root on this page down. An entry that
-/// leads to no table is the last.
+/// The places of so many ptes on an address's path, from the root on this page down. A pte that leads to
+/// no table is the last.
 fn path(config: &Config, memory: &Memory, root: u16, va: u64, count: u8) -> ArrayVec<u64, 3>
     requires { count ≤ 3 }
-    ensures { result.items ≡ path_from config.now memory.now va 2 count root }
+    ensures { result.items ≡ path_below config.now memory.now va count root }
 {
     let mut places = ArrayVec::new();
-    let mut page = u64::from(root);
+    let mut page = root;
     for step in 0..count {
-        let place = entry_place(page, 2 - step, va);
+        let place = pte_place(page, 2 - step, va);
         places.push(place);
-        match table_of(config, memory.word(place)) {
+        match table_led_to(config, memory.word(place)) {
             Some(table) => page = table,
             None => break,
         }
@@ -83,7 +59,7 @@ fn path_unless_refused(
     }
 }
 
-/// How many words the path of a table of this level has.
+/// How many ptes the path of a table of this level has.
 fn path_of_table(level: u64) -> u8
     ensures count { result ≡ table_path level }
     ensures few { result ≤ 3 }
@@ -105,7 +81,7 @@ pub fn page_number(config: &Config, page: u64) -> u16
     page as u16
 }
 
-/// The places of the entries that a call which was not refused early reads.
+/// The places of the ptes that a call which was not refused early reads.
 fn held_places(
     config: &Config,
     memory: &Memory,
@@ -152,7 +128,7 @@ fn held_places(
     }
 }
 
-/// The places of the entries that a call of core 0 reads: none where it is refused early.
+/// The places of the ptes that a call of core 0 reads: none where it is refused early.
 pub fn places_read(
     config: &Config,
     memory: &Memory,
@@ -168,21 +144,4 @@ pub fn places_read(
         Some(_) => ArrayVec::new(),
         None => held_places(config, memory, monitor.enclaves(), monitor.regions(), call),
     }
-}
-
-/// The entry that leads to a table on this page.
-pub fn entry_of_table(page: u64) -> u64
-    requires { page < 65536 }
-    ensures { result ≡ table_to page }
-{
-    (FIRST_FRAME + page) * 1024 + 1
-}
-
-/// The entry that leads to a leaf on this page, with these permissions.
-pub fn entry_of_leaf(page: u64, perms: u64) -> u64
-    requires page { page < 65536 }
-    requires perms { perms < 8 }
-    ensures { result ≡ leaf_to page perms }
-{
-    (FIRST_FRAME + page) * 1024 + 0xD1 + 2 * perms
 }

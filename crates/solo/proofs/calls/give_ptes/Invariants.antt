@@ -1,6 +1,6 @@
 use Rattle.std.proofs.Common.{◌≡◌, ◌+◌, ◌++◌, length, map, take}
-use Rattle.solo.specs.Memory.{word_at}
-use Rattle.solo.proofs.calls.give_entries.Given as goal
+use Rattle.dram_map.specs.Words.{word_at}
+use Rattle.solo.proofs.calls.give_ptes.Given as goal
 
 abbrev pub invariant-loop-place : goal.invariant-loop-place
 invariant-loop-place l = record {

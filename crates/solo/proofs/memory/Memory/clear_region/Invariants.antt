@@ -1,9 +1,0 @@
-use Rattle.std.proofs.Common.{◌≡◌, length}
-use Rattle.solo.specs.Memory.{cleared}
-use Rattle.solo.proofs.memory.Memory.clear_region.Given as goal
-
-abbrev pub invariant-loop-page : goal.invariant-loop-page
-invariant-loop-page l = record {
-  so_far : l.self ≡ cleared l.config l.r l.fn.self l.page;
-  size : length l.self ≡ length l.fn.self;
-}
