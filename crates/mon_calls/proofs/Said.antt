@@ -21,7 +21,7 @@ use Rattle.mon_model.specs.RegionCalls.{block_reply, accept_region_reply, free_r
 use Rattle.mon_model.specs.MailCalls.{send_reply, read_reply}
 use Rattle.mon_model.specs.Tries.{own_enclave, all_cells, free_tries, held_tries}
 use Rattle.mon_model.specs.Step.{held_reply, or_else}
-use Rattle.mon_enclaves.specs.Entries.{table_reply, page_reply, reserved_reply}
+use Rattle.mon_enclaves.specs.ByWords.{table_reply, page_reply, reserved_reply}
 use Rattle.mon_enclaves.proofs.Alike.{table_reply-words, page_reply-words, reserved_reply-words}
 use Rattle.lock_plan.specs.EveryPlan.{tries_held}
 use Rattle.lock_plan.specs.declared.held.Held.{Held}

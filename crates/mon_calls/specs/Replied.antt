@@ -12,7 +12,7 @@ use Rattle.mon_model.specs.RegionCalls.{block_reply, free_reply, assign_reply, r
 use Rattle.mon_model.specs.EnclaveCalls.{create_reply, init_reply, delete_reply, enclave_info_reply}
 use Rattle.mon_model.specs.ThreadCalls.{load_thread_reply, delete_thread_reply, enter_reply, restore_reply}
 use Rattle.mon_model.specs.MailCalls.{send_reply, read_reply}
-use Rattle.mon_enclaves.specs.Entries.{table_reply, page_reply, reserved_reply}
+use Rattle.mon_enclaves.specs.ByWords.{table_reply, page_reply, reserved_reply}
 use Rattle.lock_plan.specs.declared.held.Held.{Held}
 use Rattle.lock_plan.specs.Plan.{first_region, first_enclave}
 use Rattle.mon_calls.specs.OnHeld.{first_thread, tickets_held, assignee_held, target_held}
