@@ -9,8 +9,9 @@ use Rattle.mon_types.specs.declared.call.Call.TheVariants as calls
 use Rattle.mon_types.specs.declared.script.Line.{Line}
 use Rattle.mon_types.specs.declared.script.Line.TheVariants as lines
 use Rattle.hist.specs.declared.event.Event.TheVariants as events
-use Rattle.solo.specs.Context.{saved_words}
-use Rattle.solo.specs.Solo.{Core, mode_now, entry_of, called, tick_cause, ticked, pc_set, reg_set, core_after, event_budget, line_events, is_spent, stopped, core_from}
+use Rattle.core_context.specs.Registers.{saved_words}
+use Rattle.mon_types.specs.Budgets.{tick_cause, event_budget, line_events}
+use Rattle.solo.specs.Solo.{Core, mode_now, entry_of, called, ticked, pc_set, reg_set, core_after, is_spent, stopped, core_from}
 
 -- the core after a line that is next, and after no line
 next_line : (c : Core) (n : ℕ) (line : Line) (rest : List Line) → core_from c n (line ∷ rest) ≡ cond (is_spent c) (stopped c n) (core_from (core_after c line) (n + 1) rest)
@@ -41,7 +42,7 @@ call_logs c call = omega (arith, length-append c.log (events.Entry (entry_of c c
 
 tick_logs : (mode : Mode) (c : Core) → length (ticked mode c).log ≤ length c.log + 1
 tick_logs modes.Os c = omega arith
-tick_logs (modes.Inside e t) c = call_logs c (calls.Aex (saved_words c.context tick_cause))
+tick_logs (modes.Inside e t) c = call_logs c (calls.Aex (saved_words c.contexts.current tick_cause))
 
 pc_logs : (mode : Mode) (c : Core) (pc : ℕ) → length (pc_set mode c pc).log ≤ length c.log + 1
 pc_logs modes.Os c pc = omega arith

@@ -10,7 +10,9 @@ use Rattle.hist.specs.declared.event.PageInput.{PageInput}
 use Rattle.hist.specs.declared.event.Event.TheVariants as events
 use Rattle.hist.specs.History.{digest_of}
 use Rattle.dram_map.specs.Words.{word_at}
-use Rattle.solo.specs.Solo.{Core, pte_places, source_words, page_input, stored, switched, os_kept, called}
+use Rattle.core_context.specs.declared.after.After.TheVariants as afters
+use Rattle.core_context.specs.Changes.{change_of, changed}
+use Rattle.solo.specs.Solo.{Core, pte_places, source_words, page_input, stored, leaving_of, called}
 use Rattle.solo.proofs.Done.{input_is, digest_is}
 
 -- the parts of a core after a call, where the places, the page, the reply and the tried objects are these
@@ -24,8 +26,7 @@ pub record HasParts (c : Core) (call : Call) (places : List ℕ) (input page : O
   pub objects : tried ≡ tried_set (tries c.state 0 call)
   pub state : d.state ≡ after c.state 0 call (digest_of input) (c.made + 1)
   pub made : d.made ≡ c.made + 1
-  pub context : d.context ≡ switched c call
-  pub os : d.os ≡ os_kept c call
+  pub contexts : d.contexts ≡ changed c.contexts (change_of c.state 0 call) (leaving_of call)
   pub words : d.words ≡ stored c.state.shape call places c.words
   pub answers : d.answers ≡ c.answers ++ map (word_at c.words) places ++ source_words c.words call
   pub log : d.log ≡ c.log ++ events.Entry record { ticket = c.made + 1; core = 0; serial = c.made; call = call; page = page; reply = reply; tried = tried } ∷ []
@@ -37,8 +38,8 @@ made_so c call places input page reply tried d p =
     let input_so : input ≡ page_input c.words call at = input_is c call places input at p.ok p.path p.read p.unread in
     let state : d.state ≡ (called c call).state =
     p.state ∙ ap (λ (i : Option PageInput). after c.state 0 call (digest_of i) (c.made + 1)) input_so ∙ ap (λ (digest : List ℕ). after c.state 0 call digest (c.made + 1)) (digest_is c.words call at) in
-    let context : d.context ≡ (called c call).context = p.context ∙ sym (ap (λ (b : Bool). cond b (switched c call) c.context) p.ok) in
-    let os : d.os ≡ (called c call).os = p.os ∙ sym (ap (λ (b : Bool). cond b (os_kept c call) c.os) p.ok) in
+    let contexts : d.contexts ≡ (called c call).contexts =
+    p.contexts ∙ sym (ap (λ (b : Bool). changed c.contexts (cond b (change_of c.state 0 call) afters.Nothing) (leaving_of call)) p.ok) in
     let words : d.words ≡ (called c call).words =
     p.words ∙ ap (λ (l : List ℕ). stored c.state.shape call l c.words) p.path ∙ sym (ap (λ (b : Bool). cond b (stored c.state.shape call (pte_places c call) c.words) c.words) p.ok) in
     let answers : d.answers ≡ (called c call).answers =
@@ -49,4 +50,4 @@ made_so c call places input page reply tried d p =
     p.told ∙ input_so ∙ ap (page_input c.words call) same_at ∙ sym (ap (λ (b : Bool). cond b (page_input c.words call (length c.answers + length (pte_places c call))) None) p.ok) in
     let log : d.log ≡ (called c call).log =
     p.log ∙ (λ i. c.log ++ events.Entry record { ticket = c.made + 1; core = 0; serial = c.made; call = call; page = page_so i; reply = p.answers_so i; tried = p.objects i } ∷ []) in
-    λ i. record { state = state i; made = p.made i; context = context i; os = os i; words = words i; answers = answers i; log = log i }
+    λ i. record { state = state i; made = p.made i; contexts = contexts i; words = words i; answers = answers i; log = log i }

@@ -23,8 +23,9 @@ use Rattle.hist.specs.History.{entry_in, entries_of, digest_of, after_entry, aft
 use Rattle.mon_model.specs.OnCore.{is_load_page}
 use Rattle.hist.specs.Legal.{AreTickets, AreOwn, AreLegalEntries, IsLegalEntry}
 use Rattle.hist.proofs.Growing.{tickets_more, own_more, legal_more, after_more}
-use Rattle.solo.specs.Solo.{Core, core_start, mode_now, pte_places, page_input, digest_for, entry_of, called, tick_cause, ticked, pc_set, reg_set, core_after, is_spent, stopped, core_from}
-use Rattle.solo.specs.Context.{saved_words}
+use Rattle.mon_types.specs.Budgets.{tick_cause}
+use Rattle.solo.specs.Solo.{Core, core_start, mode_now, pte_places, page_input, digest_for, entry_of, called, ticked, pc_set, reg_set, core_after, is_spent, stopped, core_from}
+use Rattle.core_context.specs.Registers.{saved_words}
 
 -- ---- one call
 
@@ -105,7 +106,7 @@ after_event shape c event none h =
 
 after_tick : (shape : Shape) (mode : Mode) (c : Core) → HasHistory shape c → HasHistory shape (ticked mode c)
 after_tick shape modes.Os c h = h
-after_tick shape (modes.Inside e t) c h = after_call shape c (calls.Aex (saved_words c.context tick_cause)) h
+after_tick shape (modes.Inside e t) c h = after_call shape c (calls.Aex (saved_words c.contexts.current tick_cause)) h
 
 after_pc : (shape : Shape) (mode : Mode) (c : Core) (pc : ℕ) → HasHistory shape c → HasHistory shape (pc_set mode c pc)
 after_pc shape modes.Os c pc h = h

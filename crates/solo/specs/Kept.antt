@@ -4,7 +4,7 @@ use Rattle.mon_types.specs.Shape.{Shape, page_total}
 use Rattle.dram_map.specs.Addresses.{word_total}
 use Rattle.mon_seq.specs.Sequential.{Sequential}
 use Rattle.hist.specs.Logged.{Logged}
-use Rattle.solo.specs.Solo.{event_budget}
+use Rattle.mon_types.specs.Budgets.{event_budget}
 
 -- The machine is the monitor's and has one core, each call spent a ticket and was logged, DRAM has its size and few
 -- pages, and there is room for as many events as the budget leaves.

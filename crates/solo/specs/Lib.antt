@@ -1,4 +1,3 @@
-pub mod Context
 pub mod Ptes
 pub mod Solo
 pub mod Kept

@@ -1,4 +1,5 @@
--- The machine of one core, said directly: what a script makes of it, line by line, with the sequential monitor for calls, one list of words for DRAM, and two counts for the budget. It has no moves and no locks. This project's own.
+-- The machine of one core, said directly: what a script makes of it, line by line, with the sequential monitor for
+-- calls, one list of words for DRAM, and two counts for the budget. It has no moves and no locks. This project's own.
 use Rattle.std.specs.Prelude.{ℕ, ◌+◌, ◌-◌, ◌*◌, Bool, nat_lt, ◌||◌, if◌then◌else◌, List, [], ◌∷◌, ◌++◌, map, length, replicate, slice_index, Option, Some, None}
 use Rattle.mon_types.specs.Shape.{Shape}
 use Rattle.mon_types.specs.declared.image.Start.{Start}
@@ -23,18 +24,24 @@ use Rattle.hist.specs.declared.event.Event.TheVariants as events
 use Rattle.hist.specs.declared.event.Why.TheVariants as whys
 use Rattle.hist.specs.declared.finished.Finished.{Finished}
 use Rattle.report.specs.Report.{report_text}
-use Rattle.solo.specs.declared.context.Context.{Context}
-use Rattle.solo.specs.Context.{begun, entered, returned, with_register, saved_words, restored}
+use Rattle.core_context.specs.declared.context.Context.{Context}
+use Rattle.core_context.specs.declared.contexts.Contexts.{Contexts}
+use Rattle.core_context.specs.declared.contexts.Leaving.{Leaving}
+use Rattle.core_context.specs.declared.contexts.Leaving.TheVariants as leavings
+use Rattle.core_context.specs.Registers.{with_register, saved_words}
+use Rattle.core_context.specs.Changes.{after_call, begun_contexts, changed}
+use Rattle.mon_types.specs.Budgets.{event_budget, answer_budget, line_events, line_answers, tick_cause}
 use Rattle.dram_map.specs.Words.{word_at, zero_words, words_of_page, page_copied, region_cleared}
 use Rattle.sv39_pte.specs.Tables.{pointer_pte, leaf_pte}
 use Rattle.solo.specs.Ptes.{held_places, pte_put}
 
--- The core between two lines: the monitor's state; how many calls it made, which are all there are; its pc and registers; those of the OS, kept while it is inside an enclave; the words of DRAM; the words that loads gave it; and its log.
+-- The core between two lines: the monitor's state; how many calls it made, which are all there are; its pc and
+-- registers, and those of the OS, kept while it is inside an enclave; the words of DRAM; the words that loads gave it;
+-- and its log.
 pub record Core : Type 0 where
   pub state : State
   pub made : ℕ
-  pub context : Context
-  pub os : Context
+  pub contexts : Contexts
   pub words : List ℕ
   pub answers : List ℕ
   pub log : List Event
@@ -44,8 +51,7 @@ abbrev pub core_start : Shape → Start → Core
 core_start shape first = record {
   state = start shape;
   made = 0;
-  context = begun first;
-  os = begun first;
+  contexts = begun_contexts 0 first;
   words = zero_words shape;
   answers = [];
   log = [];
@@ -109,18 +115,10 @@ stored shape (calls.LoadPage e va page src perms) places words = pte_put (page_c
 stored shape (calls.Reserve e va page perms) places words = pte_put words places (leaf_pte page perms)
 stored shape _ places words = words
 
--- pc and registers after Ok: enter begins the thread, exit and aex give back the OS's, restore takes what was saved, and no other call changes any
-abbrev pub switched : Core → Call → Context
-switched c (calls.Enter e t) = entered (thread_at c.state t)
-switched c calls.Exit = returned c.os 0 0 0
-switched c (calls.Aex saved) = returned c.os 1 (slice_index saved 32) 0
-switched c calls.Restore = restored (thread_at c.state (own_thread (mode_now c))).saved
-switched c _ = c.context
-
--- enter keeps the OS's
-abbrev pub os_kept : Core → Call → Context
-os_kept c (calls.Enter e t) = c.context
-os_kept c _ = c.os
+-- how the call leaves an enclave, if it leaves one: an aex with the cause that it saves
+abbrev pub leaving_of : Call → Leaving
+leaving_of (calls.Aex saved) = leavings.Aex (slice_index saved 32) 0
+leaving_of _ = leavings.Exit
 
 -- the core after a call
 abbrev pub called : Core → Call → Core
@@ -129,8 +127,7 @@ called c call =
     record {
       state = after c.state 0 call (digest_for c.words call) (c.made + 1);
       made = c.made + 1;
-      context = if is_ok then switched c call else c.context;
-      os = if is_ok then os_kept c call else c.os;
+      contexts = changed c.contexts (after_call c.state 0 call) (leaving_of call);
       words = if is_ok then stored c.state.shape call (pte_places c call) c.words else c.words;
       answers = c.answers ++ loaded_by c call;
       log = c.log ++ events.Entry (entry_of c call) ∷ [];
@@ -138,22 +135,22 @@ called c call =
 
 -- ---- the lines of a script
 
--- the cause of an exit by a tick
-abbrev pub tick_cause : ℕ
-tick_cause = 9223372036854775813
-
 -- a tick leaves the enclave; for the OS it does nothing
 abbrev pub ticked : Mode → Core → Core
 ticked modes.Os c = c
-ticked (modes.Inside e t) c = called c (calls.Aex (saved_words c.context tick_cause))
+ticked (modes.Inside e t) c = called c (calls.Aex (saved_words c.contexts.current tick_cause))
+
+-- the core with another pc and other registers
+abbrev pub with_current : Core → Context → Core
+with_current c context = record c { contexts = record c.contexts { current = context } }
 
 -- the pc and a register are set for the OS alone
 abbrev pub pc_set : Mode → Core → ℕ → Core
-pc_set modes.Os c pc = record c { context = record c.context { pc = pc } }
+pc_set modes.Os c pc = with_current c (record c.contexts.current { pc = pc })
 pc_set (modes.Inside e t) c pc = c
 
 abbrev pub reg_set : Mode → Core → ℕ → ℕ → Core
-reg_set modes.Os c x value = record c { context = with_register c.context x value }
+reg_set modes.Os c x value = with_current c (with_register c.contexts.current x value)
 reg_set (modes.Inside e t) c x value = c
 
 -- the core after a line; lines of forms that are not carried out yet do nothing
@@ -166,27 +163,17 @@ core_after c (lines.StoreWord va value) = c
 core_after c (lines.SetPc pc) = pc_set (mode_now c) c pc
 core_after c (lines.SetReg x value) = reg_set (mode_now c) c x value
 
--- how many events a core may log and how many answers it may be given, and how many of each must be left before a line
-abbrev pub event_budget : ℕ
-event_budget = 16384
-
-abbrev pub answer_budget : ℕ
-answer_budget = 1048576
-
-abbrev pub line_events : ℕ
-line_events = 80
-
-abbrev pub line_answers : ℕ
-line_answers = 600
-
+-- whether too little is left of a budget for one more line
 abbrev pub is_spent : Core → Bool
-is_spent c = nat_lt (event_budget - length c.log) line_events || nat_lt (answer_budget - length c.answers) line_answers
+is_spent c =
+    nat_lt (event_budget - length c.log) line_events || nat_lt (answer_budget - length c.answers) line_answers
 
 -- a Limit at line n
 abbrev pub stopped : Core → ℕ → Core
 stopped c n = record c { log = c.log ++ events.Stop n whys.Limit ∷ [] }
 
--- The core after these lines, the first of which has number n: each is carried out, up to a Limit at the first line before which too little is left of a budget.
+-- The core after these lines, the first of which has number n: each is carried out, up to a Limit at the first line
+-- before which too little is left of a budget.
 unfoldable pub core_from : Core → ℕ → List Line → Core
 core_from c n [] = c
 core_from c n (line ∷ rest) = if is_spent c then stopped c n else core_from (core_after c line) (n + 1) rest

@@ -2,12 +2,9 @@
 
 ghost use Rattle.std.specs.Prelude.{◌≡◌, ◌+◌, ◌-◌, ◌<◌, ◌≤◌, [], ◌∷◌, ◌++◌, length, IfOk};
 
-use mon_types::Items;
+use mon_types::{ANSWER_BUDGET, Items};
 use std::alloc::{AllocError, Global};
 use std::marker::Model;
-
-/// How many answers a core may be given.
-pub const ANSWER_BUDGET: usize = 1048576;
 
 /// The words that loads gave a core, with room for as many as it may be given, taken when the list was
 /// made. Contracts see the list of the words.

@@ -2,42 +2,39 @@
 
 ghost use Rattle.std.specs.Prelude.{◌≡◌, ◌≢◌, ◌+◌, ◌*◌, ◌^◌, ◌<◌, ◌≤◌, [], ◌++◌, map, length, None, if◌then◌else◌};
 ghost use Rattle.mon_types.specs.Shape.{page_total};
-ghost use Rattle.mon_model.specs.State.{thread_at};
-ghost use Rattle.mon_types.specs.Replies.{is_done};
-ghost use Rattle.mon_types.specs.Modes.{own_thread};
+ghost use Rattle.mon_model.specs.State.{enclave_at, thread_at};
+ghost use Rattle.core_context.specs.Changes.{change_of};
 ghost use Rattle.mon_model.specs.InRange.{IsInRange};
 ghost use Rattle.hist.specs.History.{digest_of};
 ghost use Rattle.dram_map.specs.Addresses.{word_total};
 ghost use Rattle.dram_map.specs.Words.{word_at};
 ghost use Rattle.solo.specs.Ptes.{pte_put};
-ghost use Rattle.solo.specs.Solo.{pte_places, source_words, page_input, stored, switched, os_kept, called, event_budget, answer_budget, line_events, line_answers};
+ghost use Rattle.mon_types.specs.Budgets.{event_budget, answer_budget, line_events, line_answers};
+ghost use Rattle.solo.specs.Solo.{pte_places, source_words, page_input, stored, leaving_of, called};
 
 use crate::answers::Answers;
-use crate::context::Context;
 use crate::machine::Machine;
 use crate::ptes::{page_number, places_read};
+use core_context::{After, Leaving};
 use dram_map::Memory;
 use hist::{Entry, Event, PageInput};
 use mon_measure::page_digest;
-use mon_types::{Call, Config, Mode, Reply, Thread};
+use mon_types::{Call, Config, Enclave, Thread};
 use sv39_pte::{leaf_pte, pointer_pte};
 
 /// The digest that a call other than load_page is given.
 const NO_DIGEST: [u8; 32] = [0; 32];
 
-fn is_ok(reply: &Reply) -> bool
-    ensures { result ≡ is_done reply.now }
+/// How the call leaves an enclave, if it leaves one.
+fn leaving_of(call: &Call) -> Leaving
+    ensures { result ≡ leaving_of call.now }
 {
-    matches!(reply, Reply::Ok { .. })
-}
-
-/// The slot of the thread by which a core is inside an enclave; no call asks this of the OS.
-fn own_thread_of(mode: Mode) -> u8
-    ensures { result ≡ own_thread mode }
-{
-    match mode {
-        Mode::Os => 0,
-        Mode::Inside { thread, .. } => thread,
+    match *call {
+        Call::Aex { saved } => Leaving::Aex {
+            cause: saved[32],
+            value: 0,
+        },
+        _ => Leaving::Exit,
     }
 }
 
@@ -145,20 +142,33 @@ fn store(config: &Config, memory: &mut Memory, call: &Call, places: &[u64])
 }
 
 impl Machine {
-    /// The pc and the registers after Ok.
-    fn switched(&self, call: &Call) -> Context
-        ensures { result ≡ switched self.now call.now }
+    /// What Ok of the call does to the core.
+    fn change(&self, call: &Call) -> After
+        ensures { result ≡ change_of self.now.state 0 call.now }
     {
         match *call {
-            Call::Enter { t, .. } => Context::enter(&self.thread(t)),
-            Call::Exit => self.os.give_back(0, 0, 0),
-            Call::Aex { saved } => self.os.give_back(1, saved[32], 0),
+            Call::Flush | Call::SetSatp { .. } => After::Cleared,
+            Call::Enter { e, t } => After::entering(&self.enclave(e), &self.thread(t)),
+            Call::Exit | Call::Aex { .. } => After::Left,
             Call::Restore => {
-                let own = own_thread_of(self.monitor.modes()[0]);
-                Context::restore(&self.thread(u64::from(own)).saved)
+                let own = self.monitor.modes()[0].own_thread();
+                After::Restored {
+                    saved: self.thread(u64::from(own)).saved,
+                }
             }
-            _ => self.context,
+            _ => After::Nothing,
         }
+    }
+
+    /// The record of an enclave slot, an empty one past the last slot.
+    fn enclave(&self, e: u64) -> Enclave
+        ensures { result ≡ enclave_at self.now.state e }
+    {
+        self.monitor
+            .enclaves()
+            .get(e as usize)
+            .copied()
+            .unwrap_or_default()
     }
 
     /// The record of a thread slot, an empty one past the last slot.
@@ -170,16 +180,6 @@ impl Machine {
             .get(t as usize)
             .copied()
             .unwrap_or_default()
-    }
-
-    /// The OS's pc and registers after Ok.
-    fn os_kept(&self, call: &Call) -> Context
-        ensures { result ≡ os_kept self.now call.now }
-    {
-        match call {
-            Call::Enter { .. } => self.context,
-            _ => self.os,
-        }
     }
 
     /// Makes a call, and logs it.
@@ -196,11 +196,10 @@ impl Machine {
             &places,
             self.answers.len(),
         );
-        let context = self.switched(call);
-        let os = self.os_kept(call);
+        let change = self.change(call);
         let tried = self.monitor.tries(0, call);
         let reply = self.monitor.call(0, call, &digest_in(&input));
-        let done = is_ok(&reply);
+        let done = reply.is_ok();
         self.log.add(Event::Entry(Entry {
             ticket: self.made + 1,
             core: 0,
@@ -215,8 +214,7 @@ impl Machine {
         if done {
             give_source(&mut self.answers, &self.config, &self.memory, call);
             store(&self.config, &mut self.memory, call, &places);
-            self.context = context;
-            self.os = os;
+            self.contexts.change(&change, leaving_of(call));
         }
     }
 }

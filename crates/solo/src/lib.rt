@@ -3,7 +3,6 @@
 
 mod answers;
 mod calls;
-mod context;
 mod lines;
 mod machine;
 mod ptes;

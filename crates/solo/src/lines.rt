@@ -1,21 +1,12 @@
 //! The lines of a script.
 
 ghost use Rattle.std.specs.Prelude.{◌≡◌, ◌+◌, ◌≤◌, false, length};
-ghost use Rattle.solo.specs.Solo.{mode_now, ticked, pc_set, reg_set, core_after, event_budget, answer_budget, line_events, line_answers, is_spent, stopped, core_from};
+ghost use Rattle.mon_types.specs.Budgets.{event_budget, answer_budget, line_events, line_answers};
+ghost use Rattle.solo.specs.Solo.{mode_now, ticked, pc_set, reg_set, core_after, is_spent, stopped, core_from};
 
-use crate::answers::ANSWER_BUDGET;
 use crate::machine::Machine;
 use hist::{Event, Why};
-use mon_types::{Call, Line, Mode};
-
-/// How many events must be left before a line; a line logs fewer.
-const LINE_EVENTS: u32 = 80;
-
-/// How many answers must be left before a line, which may need as many.
-const LINE_ANSWERS: usize = 600;
-
-/// The cause of an exit by a tick.
-const TICK_CAUSE: u64 = 9223372036854775813;
+use mon_types::{ANSWER_BUDGET, Call, LINE_ANSWERS, LINE_EVENTS, Line, Mode, TICK_CAUSE};
 
 impl Machine {
     /// For whom the core runs.
@@ -34,7 +25,7 @@ impl Machine {
         match self.mode() {
             Mode::Os => {}
             Mode::Inside { .. } => {
-                let saved = self.context.save(TICK_CAUSE);
+                let saved = self.contexts.current.save(TICK_CAUSE);
                 self.make(&Call::Aex { saved });
             }
         }
@@ -45,7 +36,7 @@ impl Machine {
         ensures { self.new ≡ pc_set (mode_now self.old) self.old pc }
     {
         if self.mode() == Mode::Os {
-            self.context.pc = pc;
+            self.contexts.current.pc = pc;
         }
     }
 
@@ -54,7 +45,7 @@ impl Machine {
         ensures { self.new ≡ reg_set (mode_now self.old) self.old x value }
     {
         if self.mode() == Mode::Os {
-            self.context.set(x, value);
+            self.contexts.current.set(x, value);
         }
     }
 

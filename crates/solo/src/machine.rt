@@ -5,16 +5,13 @@ ghost use Rattle.mon_facts.specs.Tables.{AreTables};
 ghost use Rattle.solo.specs.Solo.{core_start, finished_by};
 
 use crate::answers::Answers;
-use crate::context::Context;
+use core_context::Contexts;
 use dram_map::Memory;
 use hist::{Finished, Log};
 use mon_seq::Monitor;
-use mon_types::{Config, Items, Start};
+use mon_types::{Config, EVENT_BUDGET, Items, Start};
 use std::alloc::{AllocError, Global};
 use std::marker::Model;
-
-/// How many events a core may log.
-pub const EVENT_BUDGET: u32 = 16384;
 
 /// A machine with one core: its monitor, and how many calls were made; the core's pc and registers, and
 /// those of the OS, which are kept while the core is inside an enclave; DRAM; what loads gave the core,
@@ -24,8 +21,7 @@ pub struct Machine {
     pub config: Config,
     pub monitor: Monitor,
     pub made: u32,
-    pub context: Context,
-    pub os: Context,
+    pub contexts: Contexts,
     pub memory: Memory,
     pub answers: Answers,
     pub log: Log,
@@ -37,7 +33,7 @@ impl Model for Machine {
 
     ghost Value = { Core };
 
-    ghost view = { λ m. record { state = m.monitor.state; made = m.made; context = m.context; os = m.os; words = m.memory; answers = m.answers; log = m.log.events } };
+    ghost view = { λ m. record { state = m.monitor.state; made = m.made; contexts = m.contexts; words = m.memory; answers = m.answers; log = m.log.events } };
 
     ghost invariant = { λ m. IsKept m.config m.monitor m.made m.memory m.log };
 }
@@ -56,8 +52,7 @@ impl Machine {
             config,
             monitor,
             made: 0,
-            context: Context::begin(start),
-            os: Context::begin(start),
+            contexts: Contexts::begin(0, start),
             memory,
             answers,
             log,

@@ -8,7 +8,7 @@ use Rattle.mon_model.specs.Step.{reply_of, after}
 use Rattle.mon_seq.specs.Sequential.{Sequential}
 use Rattle.dram_map.specs.Words.{word_at}
 use Rattle.solo.specs.Ptes.{held_places}
-use Rattle.solo.specs.Solo.{Core, unless_early, source_words, page_input, stored, switched, os_kept, called}
+use Rattle.solo.specs.Solo.{Core, unless_early, source_words, page_input, stored, called}
 use Rattle.solo.proofs.Done.{places_in_range, done_in_range}
 use Rattle.solo.proofs.Made.{made_so}
 use Rattle.solo.proofs.machine.Machine.make.Goals as goal
@@ -30,7 +30,7 @@ store-requires-clause-range c =
 
 pub returns-then-done : goal.returns-then-done
 returns-then-done c =
-    let core : Core = record { state = c.self.inside.monitor.state; made = c.self.inside.made; context = c.self.inside.context; os = c.self.inside.os; words = c.self.inside.memory; answers = c.self.inside.answers; log = c.self.inside.log.events } in
+    let core : Core = record { state = c.self.inside.monitor.state; made = c.self.inside.made; contexts = c.self.inside.contexts; words = c.self.inside.memory; answers = c.self.inside.answers; log = c.self.inside.log.events } in
     let done : is_done (reply_of c.self.inside.monitor.state 0 c.args.call.now) ≡ true = sym (ap is_done c.call-reply.ensures.reply) ∙ sym c.is_ok-done.ensures ∙ c.if-done.true in
     let machine : c.self.inside.config ≡ c.self.inside.monitor.state.shape = sym c.self.invariant.machine in
     made_so core c.args.call.now c.deref.result.now c.input_of-input.result c.only_if.result c.call-reply.result c.tries-tried.result _ record {
@@ -46,8 +46,7 @@ returns-then-done c =
           ∙ ap (λ (ticket : ℕ). after c.self.inside.monitor.state 0 c.args.call.now c.digest_in.result (ticket + 1)) c.self.invariant.tickets
           ∙ ap (λ (digest : List ℕ). after c.self.inside.monitor.state 0 c.args.call.now digest (c.self.inside.made + 1)) c.digest_in.ensures;
       made = refl;
-      context = c.switched-context.ensures ∙ ap (λ (x : Core). switched x c.args.call.now) (sym c.self.view_is);
-      os = c.os_kept-os.ensures ∙ ap (λ (x : Core). os_kept x c.args.call.now) (sym c.self.view_is);
+      contexts = c.change-then-done.ensures;
       words = c.store.ensures.stored ∙ ap (λ (l : List ℕ). stored c.self.inside.config c.args.call.now l c.self.inside.memory) (c.deref-then-done.ensures.0 ∙ sym c.deref.ensures.0)
           ∙ ap (λ (shape : Shape). stored shape c.args.call.now c.deref.result.now c.self.inside.memory) machine;
       answers = c.give_source.ensures

@@ -1,5 +1,6 @@
 use Rattle.std.proofs.Common.{◌≡◌, ◌+◌, ◌≤◌, drop, length}
-use Rattle.solo.specs.Solo.{event_budget, line_events, core_from}
+use Rattle.mon_types.specs.Budgets.{event_budget, line_events}
+use Rattle.solo.specs.Solo.{core_from}
 use Rattle.solo.proofs.machine.Machine.run.Given as goal
 
 abbrev pub invariant-loop-i : goal.invariant-loop-i
