@@ -1,2 +1,3 @@
-pub mod Room
+pub mod Put
+pub mod Gathered
 pub mod Measured

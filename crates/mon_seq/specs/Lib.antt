@@ -1,3 +1,4 @@
 pub mod Sequential
-pub mod Tried
+pub mod Begun
+pub mod Put
 pub mod Turns

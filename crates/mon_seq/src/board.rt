@@ -1,13 +1,11 @@
 //! The tables on which calls work.
 
-ghost use Rattle.std.specs.Prelude.{◌≡◌, ◌<◌, [], replicate, IfOk};
+ghost use Rattle.std.specs.Prelude.{◌≡◌, [], replicate, IfOk};
 ghost use Rattle.mon_model.specs.State.{start};
-ghost use Rattle.mon_types.specs.Replies.{is_done};
-ghost use Rattle.mon_types.specs.Modes.{own_slot, own_thread};
-ghost use Rattle.mon_facts.specs.Tables.{NamesSlots, AreTables};
+ghost use Rattle.mon_facts.specs.Tables.{AreTables};
 
 use crate::loads::Loads;
-use mon_types::{Config, Enclave, Mode, Owner, Region, Reply, Thread};
+use mon_types::{Config, Enclave, Mode, Owner, Region, Thread};
 use std::alloc::{AllocError, Global};
 use std::marker::Model;
 
@@ -68,35 +66,5 @@ impl Board {
             modes,
             loaded,
         })
-    }
-}
-
-pub fn is_ok(reply: &Reply) -> bool
-    ensures { result ≡ is_done reply.now }
-{
-    matches!(reply, Reply::Ok { .. })
-}
-
-/// The slot of the enclave that a core is inside; no call asks this of the OS.
-pub fn own_slot_of(mode: Mode) -> u8
-    requires { NamesSlots mode }
-    ensures slot { result ≡ own_slot mode }
-    ensures small { result < 8 }
-{
-    match mode {
-        Mode::Os => 0,
-        Mode::Inside { enclave, .. } => enclave,
-    }
-}
-
-/// The slot of the thread by which a core is inside an enclave; no call asks this of the OS.
-pub fn own_thread_of(mode: Mode) -> u8
-    requires { NamesSlots mode }
-    ensures slot { result ≡ own_thread mode }
-    ensures small { result < 16 }
-{
-    match mode {
-        Mode::Os => 0,
-        Mode::Inside { thread, .. } => thread,
     }
 }

@@ -2,22 +2,20 @@
 //! but the first, which makes the monitor.
 #![tactic(auto)]
 
+mod begun;
 mod board;
-mod enclaves;
-mod loading;
+mod gather;
 mod loads;
-mod mail;
 mod monitor;
-mod regions;
+mod put_back;
 mod step;
 mod tables;
 #[cfg(test)]
 mod tests;
-mod threads;
-mod tries;
 mod turns;
 mod words;
 
+pub use begun::Begun;
 pub use monitor::Monitor;
 pub use tables::Tables;
 pub use turns::{Turn, take_turns};

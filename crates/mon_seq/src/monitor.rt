@@ -5,22 +5,25 @@ ghost use Rattle.mon_model.specs.State.{start};
 ghost use Rattle.mon_types.specs.Replies.{is_concurrent};
 ghost use Rattle.mon_model.specs.Step.{reply_of};
 ghost use Rattle.mon_model.specs.Tries.{tries, tried_set};
+ghost use Rattle.mon_seq.specs.Begun.{begun_in};
 ghost use Rattle.mon_seq.specs.Sequential.{then_call, then_skip};
 ghost use Rattle.mon_facts.specs.Tables.{AreTables, AreDated};
 ghost use Rattle.mon_facts.specs.Facts.{SetsAreOwned, OwnersAreThere, BlockedAreOlder, EmptyAreBlank, InitializedAreRooted, ThreadsAreCounted, InsideAreRunning, RunningAreInside, InsideAreAlone, RunningAreInitialized, LoadedArePlaced, FactsHold};
 
+use crate::begun::Begun;
 use crate::board::Board;
 use crate::tables::Tables;
-use crate::tries::tried_by;
 use mon_types::{Call, Config, Enclave, Items, Mode, Region, Reply, Thread, Tried};
 use std::alloc::{AllocError, Global};
 use std::marker::Model;
 
-/// The state of the monitor, and how many tickets were spent.
+/// The state of the monitor, and how many tickets were spent. Where a call is made in one step, `begun` is
+/// where it is begun, so that no call makes room for the records that it holds.
 #[derive(Debug, Drop)]
 pub struct Monitor {
     board: Board,
     ticket: u32,
+    begun: Begun,
 }
 
 impl Model for Monitor {
@@ -45,11 +48,12 @@ impl Monitor {
         Ok(Monitor {
             board: Board::new(alloc, config)?,
             ticket: 0,
+            begun: Begun::new(),
         })
     }
 
-    /// One call by a core of the machine, at the next ticket. `digest` is that of the page that a
-    /// load_page reads, and is not used by other calls.
+    /// One call by a core of the machine, at the next ticket: begun and finished. `digest` is that of the
+    /// page that a load_page reads, and is not used by other calls.
     #[tactic(auto, using(mon_model::specs::EveryReply::never_met, mon_model::specs::EveryStep::after_shape))]
     pub fn call(&mut self, core: u8, call: &Call, digest: &[u8; 32]) -> Reply
         requires core { core < self.old.state.shape.cores }
@@ -61,7 +65,37 @@ impl Monitor {
     {
         let ticket = self.ticket + 1;
         self.ticket = ticket;
-        self.board.step(core, call, ticket, digest)
+        self.board.begin(core, call, &mut self.begun);
+        let reply = self.begun.reply;
+        self.board
+            .finish(core, call, digest, ticket, &mut self.begun);
+        reply
+    }
+
+    /// Begins a call by a core of the machine: what it answers, what it tries, and the records of that. The
+    /// monitor stays as it is. What a load_page reads need be known only where it answers Ok.
+    #[tactic(auto, using(mon_model::specs::EveryReply::never_met))]
+    pub fn begin(&self, core: u8, call: &Call, begun: &mut Begun)
+        requires { core < self.now.state.shape.cores }
+        ensures begun { begun.new ≡ begun_in self.now.state core call.now }
+        ensures never_concurrent { is_concurrent begun.new.reply ≡ false }
+    {
+        self.board.begin(core, call, begun);
+    }
+
+    /// Finishes a call that was begun in the present state, at the next ticket. `digest` is that of the page
+    /// that a load_page reads, and is not used by other calls, nor where the call is refused.
+    #[tactic(auto, using(mon_model::specs::EveryStep::after_shape))]
+    pub fn finish(&mut self, core: u8, call: &Call, digest: &[u8; 32], begun: &mut Begun)
+        requires core { core < self.old.state.shape.cores }
+        requires ticket { self.old.ticket < 2 ^ 32 - 1 }
+        requires begun { begun.old ≡ begun_in self.old.state core call.now }
+        ensures after { self.new ≡ then_call self.old core call.now digest.now }
+        ensures machine { self.new.state.shape ≡ self.old.state.shape }
+    {
+        let ticket = self.ticket + 1;
+        self.ticket = ticket;
+        self.board.finish(core, call, digest, ticket, begun);
     }
 
     /// The objects that such a call would try in the present state; none where it would be refused
@@ -70,14 +104,9 @@ impl Monitor {
         requires { core < self.now.state.shape.cores }
         ensures { result ≡ tried_set (tries self.now.state core call.now) }
     {
-        tried_by(
-            &self.board.config,
-            core,
-            self.board.modes[core as usize],
-            call,
-            &self.board.regions,
-            &self.board.enclaves,
-        )
+        let mut begun = Begun::new();
+        self.board.begin(core, call, &mut begun);
+        begun.tried
     }
 
     /// Spends the next ticket, and changes nothing else.

@@ -1,86 +1,116 @@
-//! One call on the tables, of any kind.
+//! One call on the tables, in two steps.
 
-ghost use Rattle.std.specs.Prelude.{◌≡◌, ◌<◌, if◌then◌else◌};
-ghost use Rattle.mon_model.specs.State.{mode_of};
+ghost use Rattle.std.specs.Prelude.{◌≡◌, ◌<◌, [], length, true, None};
 ghost use Rattle.mon_types.specs.Replies.{is_done};
-ghost use Rattle.mon_model.specs.Step.{held_reply, effect, reply_of, after};
-ghost use Rattle.mon_facts.specs.Tables.{NamesSlots, AreTables};
+ghost use Rattle.mon_model.specs.State.{mode_of};
+ghost use Rattle.mon_model.specs.Early.{early};
 ghost use Rattle.mon_model.specs.InRange.{IsInRange};
+ghost use Rattle.mon_model.specs.Step.{reply_of, after};
+ghost use Rattle.mon_model.specs.Tries.{tries, tried_set};
+ghost use Rattle.mon_facts.specs.Tables.{AreTables};
+ghost use Rattle.lock_plan.specs.Records.{nothing_held, records_of};
+ghost use Rattle.mon_calls.specs.Decided.{AreWords};
+ghost use Rattle.mon_seq.specs.Begun.{begun_in};
 
-use crate::board::{Board, own_slot_of, own_thread_of};
-use lock_plan::refuse_early;
-use mon_types::{Call, Mode, Reply};
+use crate::begun::{Begun, nothing_tried};
+use crate::board::Board;
+use crate::words::{words_of_leaf, words_of_table};
+use arrayvec::ArrayVec;
+use lock_plan::{Held, refuse_early};
+use mon_calls::{apply, decide};
+use mon_types::{Call, Mode};
 
 impl Board {
-    /// One call by a core of the machine, at this ticket.
-    pub fn step(&mut self, core: u8, call: &Call, ticket: u32, digest: &[u8; 32]) -> Reply
-        requires tables { AreTables self.old }
-        requires core { core < self.old.shape.cores }
-        ensures reply { result ≡ reply_of self.old core call.now }
-        ensures after { self.new ≡ after self.old core call.now digest.now ticket }
-        ensures tables { AreTables self.new }
+    /// For whom a core runs.
+    fn mode(&self, core: u8) -> Mode
+        requires { core < length self.now.modes }
+        ensures { result ≡ mode_of self.now core }
     {
-        let mode = self.modes[usize::from(core)];
-        match refuse_early(&self.config, mode, call) {
-            Some(refusal) => refusal,
-            None => self.carry_out(core, mode, call, ticket, digest),
+        self.modes[usize::from(core)]
+    }
+
+    /// All words of page tables that a call reads, from the items that were loaded.
+    fn ptes_of(&self, call: &Call) -> ArrayVec<u64, 3>
+        requires tables { AreTables self.now }
+        requires arguments { IsInRange self.now.shape call.now }
+        ensures { AreWords self.now call.now result.items }
+    {
+        match *call {
+            Call::LoadTable { e, va, level, .. } => {
+                words_of_table(self.loaded[e as usize].as_slice(), va, level as u8)
+            }
+            Call::LoadPage { e, va, .. } | Call::Reserve { e, va, .. } => {
+                words_of_leaf(self.loaded[e as usize].as_slice(), va)
+            }
+            _ => ArrayVec::new(),
         }
     }
 
-    /// A call that was not refused early, by a core in this mode.
-    fn carry_out(
+    /// What is known of a call by a core of the machine before anything changes.
+    pub fn begin(&self, core: u8, call: &Call, begun: &mut Begun)
+        requires tables { AreTables self.now }
+        requires core { core < self.now.shape.cores }
+        ensures { begun.new ≡ begun_in self.now core call.now }
+    {
+        let mode = self.mode(core);
+        begun.tried = nothing_tried();
+        begun.held.clear();
+        match refuse_early(&self.config, mode, call) {
+            Some(refusal) => {
+                begun.is_early = true;
+                begun.reply = refusal;
+            }
+            None => self.begin_held(core, mode, call, begun),
+        }
+    }
+
+    /// The same of a call that is not refused early, where nothing is tried yet.
+    fn begin_held(&self, core: u8, mode: Mode, call: &Call, begun: &mut Begun)
+        requires tables { AreTables self.now }
+        requires core { core < self.now.shape.cores }
+        requires mode { mode ≡ mode_of self.now core }
+        requires early { early self.now.shape mode call.now ≡ None }
+        requires none_tried { begun.old.tried ≡ tried_set [] }
+        requires none_held { begun.old.held ≡ nothing_held }
+        ensures { begun.new ≡ begun_in self.now core call.now }
+    {
+        self.gather(core, mode, call, &mut begun.tried, &mut begun.held);
+        let ptes = self.ptes_of(call);
+        begun.is_early = false;
+        begun.reply = decide(&self.config, core, mode, call, &begun.held, &ptes);
+    }
+
+    /// What a call that was begun on these tables makes of them, at this ticket.
+    pub fn finish(
         &mut self,
         core: u8,
-        mode: Mode,
         call: &Call,
-        ticket: u32,
         digest: &[u8; 32],
-    ) -> Reply
+        ticket: u32,
+        begun: &mut Begun,
+    )
         requires tables { AreTables self.old }
         requires core { core < self.old.shape.cores }
-        requires mode { mode ≡ mode_of self.old core }
-        requires slots { NamesSlots mode }
-        requires arguments { IsInRange self.old.shape call.now }
-        ensures reply { result ≡ held_reply self.old core call.now }
-        ensures after { self.new ≡ (if is_done result then effect self.old core call.now digest.now ticket else self.old) }
+        requires begun { begun.old ≡ begun_in self.old core call.now }
+        ensures { self.new ≡ after self.old core call.now digest.now ticket }
     {
-        let own = own_slot_of(mode);
-        let thread = own_thread_of(mode);
-        match *call {
-            Call::Block { r } => self.block(call, mode, ticket, r),
-            Call::Free { r } => self.free(call, ticket, r),
-            Call::Assign { r, to } => self.assign(call, ticket, r, to),
-            Call::Flush => self.flush(call, core, ticket),
-            Call::RegionInfo { r } => self.region_info(r),
-            Call::Create { e, base, size } => self.create(call, ticket, e, base, size),
-            Call::LoadTable { e, va, level, page } => {
-                self.load_table(call, ticket, e, va, level, page)
-            }
-            Call::LoadPage {
-                e,
-                va,
-                page,
-                src,
-                perms,
-            } => self.load_page(call, ticket, e, va, page, src, perms, digest),
-            Call::LoadThread { e, t, entry, sp } => self.load_thread(call, ticket, e, t, entry, sp),
-            Call::Init { e } => self.init(call, ticket, e),
-            Call::DeleteThread { e, t } => self.delete_thread(call, ticket, e, t),
-            Call::Delete { e } => self.delete(call, ticket, e),
-            Call::Enter { e, t } => self.enter(call, core, ticket, e, t),
-            Call::Exit => self.exit(call, core, thread, ticket),
-            Call::Aex { saved } => self.aex(call, core, thread, ticket, &saved),
-            Call::Restore => self.restore(call, thread, ticket),
-            Call::Accept { m, from } => self.accept(call, own, ticket, m, from),
-            Call::Send { to, m, .. } => self.send(call, own, ticket, to, m),
-            Call::Read { m } => self.read(call, own, ticket, m),
-            Call::EnclaveInfo { e } => self.enclave_info(e),
-            Call::SetSatp { .. } => self.set_satp(),
-            Call::AcceptRegion { r } => self.accept_region(call, own, ticket, r),
-            Call::Reserve { e, va, page, perms } => {
-                self.reserve(call, ticket, e, va, page, perms)
-            }
-            Call::Unknown { .. } => Reply::Unsupported,
+        if begun.reply.is_ok() {
+            self.carry_out(core, call, digest, ticket, &mut begun.held);
         }
+    }
+
+    /// The same of a call that answers Ok.
+    fn carry_out(&mut self, core: u8, call: &Call, digest: &[u8; 32], ticket: u32, held: &mut Held)
+        requires tables { AreTables self.old }
+        requires core { core < self.old.shape.cores }
+        requires done { is_done (reply_of self.old core call.now) ≡ true }
+        requires held { held.old ≡ records_of self.old (tries self.old core call.now) }
+        ensures { self.new ≡ after self.old core call.now digest.now ticket }
+    {
+        let mode = self.mode(core);
+        apply(&self.config, core, mode, call, digest, ticket, held);
+        self.put_back(held);
+        self.change_items(call);
+        self.change_mode(core, call);
     }
 }
