@@ -1,7 +1,6 @@
 //! What the calls answer that the enclave's record alone decides.
 
 ghost use Rattle.std.specs.Prelude.{◌≡◌};
-ghost use Rattle.mon_types.specs.Enclaves.{stage_code};
 ghost use Rattle.mon_types.specs.Replies.{done};
 ghost use Rattle.mon_model.specs.EnclaveCalls.{create_reply, init_reply, delete_reply, enclave_info_reply};
 
@@ -30,23 +29,13 @@ pub fn decide_delete(enclave: &Enclave) -> Reply
     Reply::done_if(enclave.stage != Stage::Empty && enclave.threads == 0)
 }
 
-fn stage_word(stage: Stage) -> u64
-    ensures { result ≡ stage_code stage }
-{
-    match stage {
-        Stage::Empty => 0,
-        Stage::Loading => 1,
-        Stage::Initialized => 2,
-    }
-}
-
 /// enclave_info, which has no refusal here. The words are the stage (0 Empty, 1 Loading, 2
 /// Initialized), base and size in bytes, the region set, and the four words of the measurement.
 pub fn decide_enclave_info(enclave: &Enclave) -> Reply
     ensures { result ≡ enclave_info_reply enclave.now }
 {
     let [m0, m1, m2, m3] = enclave.measure;
-    let stage = stage_word(enclave.stage);
+    let stage = enclave.stage.code();
     Reply::told_eight([
         stage,
         enclave.base,

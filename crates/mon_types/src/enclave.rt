@@ -1,7 +1,7 @@
 //! Enclave slots.
 
 ghost use Rattle.std.specs.Prelude.{◌≡◌, ◌%◌, ◌^◌, ◌≤◌};
-ghost use Rattle.mon_types.specs.Enclaves.{empty_enclave, enclave_within, root_within};
+ghost use Rattle.mon_types.specs.Enclaves.{empty_enclave, enclave_within, root_within, stage_code};
 
 use crate::config::Config;
 
@@ -11,6 +11,19 @@ pub enum Stage {
     Empty,
     Loading,
     Initialized,
+}
+
+impl Stage {
+    /// The number of the stage in words: 0 Empty, 1 Loading, 2 Initialized.
+    pub fn code(self) -> u64
+        ensures { result ≡ stage_code self }
+    {
+        match self {
+            Stage::Empty => 0,
+            Stage::Loading => 1,
+            Stage::Initialized => 2,
+        }
+    }
 }
 
 /// A mailbox of an enclave. `from` is the sender's slot.

@@ -2,20 +2,10 @@
 
 ghost use Rattle.std.specs.Prelude.{◌≡◌, ◌≢◌, ◌+◌, ◌∷◌, ◌++◌};
 ghost use Rattle.mon_types.specs.declared.enclave.Enclave.{Enclave};
-ghost use Rattle.mon_types.specs.Enclaves.{IsEnclave, MailboxNamesSlot, EnclaveNamesSlots, empty_enclave, enclave_from, enclave_parts, enclave_row, mailbox_parts, mailbox_row, numbers_row, root_code, root_from, stage_code, stage_from};
+ghost use Rattle.mon_types.specs.Enclaves.{IsEnclave, MailboxNamesSlot, EnclaveNamesSlots, empty_enclave, enclave_from, enclave_parts, enclave_row, mailbox_parts, mailbox_row, numbers_row, root_code, root_from, stage_from};
 
 use crate::enclave::{Enclave, Mailbox, Stage};
 use crate::words::{joined, u8_of, u16_of, words_at};
-
-fn stage_word(stage: Stage) -> u64
-    ensures { result ≡ stage_code stage }
-{
-    match stage {
-        Stage::Empty => 0,
-        Stage::Loading => 1,
-        Stage::Initialized => 2,
-    }
-}
 
 #[tactic(auto, unfolding(crate::specs::Enclaves::stage_from))]
 fn stage_of(word: u64) -> Stage
@@ -94,7 +84,7 @@ fn numbers_words(enclave: &Enclave) -> [u64; 7]
     ensures { result ≡ numbers_row enclave.now }
 {
     [
-        stage_word(enclave.stage),
+        enclave.stage.code(),
         enclave.base,
         enclave.size,
         enclave.regions,
