@@ -4,7 +4,8 @@ use Rattle.std.proofs.Math.Nat.{le_trans, mul-le-mul_left, mul-le-mul_right}
 use Rattle.std.specs.List.{AllByRecursion}
 use Rattle.mon_types.specs.Shape.{Shape, is_core_count, is_region_count, is_page_count, is_shift, is_shape, page_total}
 use Rattle.mon_types.specs.declared.image.Segment.{Segment}
-use Rattle.image_read.specs.Image.{dram_start, segment_end, AreSegments, IsShort}
+use Rattle.dram_map.specs.Addresses.{dram_start}
+use Rattle.image_read.specs.Image.{segment_end, AreSegments, IsShort}
 
 most_regions : (shape : Shape) → is_shape shape ≡ true → shape.regions ≤ 64
 most_regions shape is = grind arith

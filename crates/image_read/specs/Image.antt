@@ -4,7 +4,8 @@ use Rattle.std.specs.Prelude.{◌≡◌, ℕ, ◌+◌, ◌*◌, ◌%◌, ◌^◌
 use Rattle.std.specs.List.{flat_map, AllByRecursion}
 use Rattle.std.specs.Int.{w16, w32, w64, to_le_bytes}
 use Rattle.sha2.specs.Sha256.{sha256}
-use Rattle.mon_types.specs.Shape.{Shape, is_shape, page_total}
+use Rattle.mon_types.specs.Shape.{Shape, is_shape}
+use Rattle.dram_map.specs.Addresses.{dram_start, dram_end}
 use Rattle.mon_types.specs.declared.image.Image.{Image}
 use Rattle.mon_types.specs.declared.image.Segment.{Segment}
 use Rattle.mon_types.specs.declared.image.Start.{Start}
@@ -59,14 +60,6 @@ image_text version image = body_text version image ++ digest_text version (body_
 -- how many cores an image of a version may have
 abbrev pub most_cores : ℕ → ℕ
 most_cores version = if version == 1 then 8 else 16
-
--- the physical address of the first byte of DRAM
-abbrev pub dram_start : ℕ
-dram_start = 0x8000_0000
-
--- the physical address behind DRAM, whose pages have 4,096 bytes
-abbrev pub dram_end : Shape → ℕ
-dram_end shape = dram_start + 4096 * page_total shape
 
 -- the physical address behind a segment
 abbrev pub segment_end : Segment → ℕ

@@ -2,9 +2,11 @@
 
 ghost use Rattle.std.specs.Prelude.{◌≡◌, ◌≤◌, length, IfOk};
 ghost use Rattle.mon_types.specs.Shape.{plain};
-ghost use Rattle.image_read.specs.Image.{dram_start, AreSegments, IsImage};
+ghost use Rattle.dram_map.specs.Addresses.{dram_start};
+ghost use Rattle.image_read.specs.Image.{AreSegments, IsImage};
 
 use crate::{write_image, write_image_2};
+use dram_map::DRAM_START;
 use mon_types::{Config, Image, Items, Segment, Start};
 use sm_ports::{Failed, VecSink};
 use std::alloc::{AllocError, Global};
@@ -19,7 +21,7 @@ fn image(alloc: Global, segments: Items<Segment>) -> Result<Image, AllocError>
 {
     let mut starts = Items::new(alloc);
     starts.push(Start {
-        pc: 0x8000_0000,
+        pc: DRAM_START,
         sp: 0,
     })?;
     Ok(Image {
@@ -36,7 +38,7 @@ fn guest(alloc: Global) -> Result<Items<Segment>, AllocError>
 {
     let mut segments = Items::new(alloc);
     segments.push(Segment {
-        address: 0x8000_0000,
+        address: DRAM_START,
         words: Items::from_vec(Vec::from_array(
             alloc,
             [0x0000_0073_0040_0893, 0x0000_0000_0010_0073],

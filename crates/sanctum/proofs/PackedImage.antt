@@ -6,7 +6,8 @@ use Rattle.std.proofs.lemmas.List.{length-replicate}
 use Rattle.mon_types.specs.Shape.{Shape, is_shape, is_core_count, is_region_count, is_page_count, is_shift, page_total}
 use Rattle.mon_types.specs.declared.image.Segment.{Segment}
 use Rattle.mon_types.specs.declared.image.Start.{Start}
-use Rattle.image_read.specs.Image.{dram_start, most_cores, AreSegments, IsImage}
+use Rattle.dram_map.specs.Addresses.{page_bytes, dram_start}
+use Rattle.image_read.specs.Image.{most_cores, AreSegments, IsImage}
 use Rattle.sanctum.specs.Packing.{word_limit, paired, packed_start, packed_segments, packed_image, version_for}
 use Rattle.sanctum.proofs.Pairs.{half_as_many, some_paired}
 
@@ -31,7 +32,7 @@ aligned_starts zero = tt
 aligned_starts (suc n) = (refl, aligned_starts n)
 
 -- words that DRAM holds end within it
-within_dram : (pages words pairs : ℕ) → words ≤ 1024 * pages → pairs * 2 ≤ words + 1 → dram_start + 8 * pairs ≤ dram_start + 4096 * pages
+within_dram : (pages words pairs : ℕ) → words ≤ 1024 * pages → pairs * 2 ≤ words + 1 → dram_start + 8 * pairs ≤ dram_start + page_bytes * pages
 within_dram pages words pairs few half = omega (arith, few, half)
 
 few_segments : (words : List ℕ) → length (packed_segments words) ≤ 64

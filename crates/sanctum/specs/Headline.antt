@@ -12,6 +12,7 @@ use Rattle.script_read.specs.declared.fault.ScriptFault.{ScriptFault}
 use Rattle.rv_asm.specs.Grammar.{IsText}
 use Rattle.rv_asm.specs.Reading.{statements_of}
 use Rattle.rv_asm.specs.declared.fault.AsmFault.{AsmFault}
+use Rattle.dram_map.specs.Addresses.{dram_start}
 use Rattle.image_read.specs.Image.{image_text}
 use Rattle.hist.specs.Logged.{events_of}
 use Rattle.hist.specs.Legal.{Legal, HasLastTables}
@@ -31,7 +32,7 @@ AreScript told script = IfSome told (λ bytes. IsScript None bytes (script ∷ [
 
 -- the plain machine's core starts at the begin of DRAM, with stack pointer 0
 abbrev pub plain_start : Start
-plain_start = record { pc = 0x80000000; sp = 0 }
+plain_start = record { pc = dram_start; sp = 0 }
 
 -- the finished run of a script on the plain machine with one core
 abbrev pub plain_run : List Line → Finished

@@ -4,7 +4,7 @@ use Rattle.mon_types.specs.Shape.{Shape, page_total}
 use Rattle.mon_types.specs.declared.image.Image.{Image}
 use Rattle.mon_types.specs.declared.image.Segment.{Segment}
 use Rattle.mon_types.specs.declared.image.Start.{Start}
-use Rattle.image_read.specs.Image.{dram_start}
+use Rattle.dram_map.specs.Addresses.{dram_start}
 
 -- the most words of a text: as many words of four bytes as DRAM holds, 1,024 in a page
 abbrev pub word_limit : Shape → ℕ

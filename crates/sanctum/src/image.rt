@@ -4,11 +4,9 @@ ghost use Rattle.std.specs.Prelude.{◌≡◌, ◌≤◌, ◌<◌, ◌∷◌, []
 ghost use Rattle.image_read.specs.Image.{IsImage};
 ghost use Rattle.sanctum.specs.Packing.{word_limit, paired, packed_start, packed_segments, packed_image, version_for};
 
+use dram_map::DRAM_START;
 use mon_types::{Config, Image, Items, Segment, Start};
 use std::alloc::{AllocError, Global};
-
-/// The physical address of the first byte of DRAM.
-const DRAM_START: u64 = 0x8000_0000;
 
 /// How every core starts.
 const START: Start = Start {

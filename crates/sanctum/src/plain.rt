@@ -8,6 +8,7 @@ ghost use Rattle.report.specs.Report.{HasAllCores};
 ghost use Rattle.solo.specs.Given.{IsOneScript, lines_of_core_0};
 ghost use Rattle.sanctum.specs.Headline.{plain_start, plain_run};
 
+use dram_map::DRAM_START;
 use hist::Finished;
 use mon_types::{Config, Image, Items, Script, Start};
 use solo::solo;
@@ -33,7 +34,7 @@ fn plain_image(alloc: Global) -> Result<Image, AllocError>
 {
     let mut starts = Items::new(alloc);
     starts.push(Start {
-        pc: 0x8000_0000,
+        pc: DRAM_START,
         sp: 0,
     })?;
     Ok(Image {

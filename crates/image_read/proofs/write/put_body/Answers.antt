@@ -1,6 +1,7 @@
 use Rattle.std.proofs.Common.{length, arith}
 use Rattle.std.specs.List.{flat_map}
-use Rattle.image_read.specs.Image.{head_text, start_text, segment_text, dram_start}
+use Rattle.dram_map.specs.Addresses.{dram_start}
+use Rattle.image_read.specs.Image.{head_text, start_text, segment_text}
 use Rattle.image_read.proofs.Pieces.{stopped_first, stopped_second, writes_third}
 use Rattle.image_read.proofs.Short.{most_in_all, all_short}
 use Rattle.image_read.proofs.write.put_body.Goals as goal
