@@ -52,6 +52,7 @@ left_by (leavings.Aex cause value) os = returned os 1 cause value
 abbrev pub changed : Contexts → After → Leaving → Contexts
 changed c afters.Nothing leaving = c
 changed c afters.Cleared leaving = c
-changed c (afters.Entered entry sp base size root saved) leaving = record { current = entered entry sp saved; os = c.current }
+changed c (afters.Entered entry sp base size root saved) leaving =
+    record { current = entered entry sp saved; os = c.current }
 changed c afters.Left leaving = record c { current = left_by leaving c.os }
 changed c (afters.Restored saved) leaving = record c { current = restored saved }

@@ -33,9 +33,12 @@ records_of s (x ∷ xs) = and_records s x (records_of s xs)
 
 -- these records, and then the record of an object in a state
 abbrev pub with_record : State → ObjectId → Held → Held
-with_record s (objects.Enclave e) h = record h { enclaves = record { items = h.enclaves.items ++ (e, enclave_at s e) ∷ [] } }
-with_record s (objects.Thread t) h = record h { threads = record { items = h.threads.items ++ (t, thread_at s t) ∷ [] } }
-with_record s (objects.Region r) h = record h { regions = record { items = h.regions.items ++ (r, region_at s r) ∷ [] } }
+with_record s (objects.Enclave e) h =
+    record h { enclaves = record { items = h.enclaves.items ++ (e, enclave_at s e) ∷ [] } }
+with_record s (objects.Thread t) h =
+    record h { threads = record { items = h.threads.items ++ (t, thread_at s t) ∷ [] } }
+with_record s (objects.Region r) h =
+    record h { regions = record { items = h.regions.items ++ (r, region_at s r) ∷ [] } }
 with_record s (objects.Cell c) h = record h { cells = record { items = h.cells.items ++ (c, flushed_at s c) ∷ [] } }
 
 -- The call tries `front` in state s and then `rest`, and the records of `front` are held.
@@ -46,7 +49,9 @@ pub record HoldsFront (s : State) (core : ℕ) (call : Call) (held : Held) (fron
 -- In every state of this machine in which the core is in this mode, where the records of the first
 -- objects that the call tries are held, the answer is the first of the others, None where all are held.
 abbrev pub IsNext : Shape → ℕ → Mode → Call → Held → Option ObjectId → Type 0
-IsNext shape core mode call held answer = (s : State) (front rest : List ObjectId) → s.shape ≡ shape → mode_of s core ≡ mode → HoldsFront s core call held front rest → answer ≡ slice_get rest 0
+IsNext shape core mode call held answer =
+    (s : State) (front rest : List ObjectId) → s.shape ≡ shape → mode_of s core ≡ mode
+    → HoldsFront s core call held front rest → answer ≡ slice_get rest 0
 
 -- there is room for the record of the object
 abbrev pub HasRoom : Held → ObjectId → Type 0
@@ -58,4 +63,6 @@ HasRoom h (objects.Cell c) = array_vec_len h.cells < 16
 -- where the records of the first objects that the call tries in such a state are held, there is room for
 -- the next one
 abbrev pub LeavesRoom : Shape → ℕ → Mode → Call → Held → Option ObjectId → Type 0
-LeavesRoom shape core mode call held answer = (s : State) (front rest : List ObjectId) → s.shape ≡ shape → mode_of s core ≡ mode → HoldsFront s core call held front rest → IfSome answer (HasRoom held)
+LeavesRoom shape core mode call held answer =
+    (s : State) (front rest : List ObjectId) → s.shape ≡ shape → mode_of s core ≡ mode
+    → HoldsFront s core call held front rest → IfSome answer (HasRoom held)

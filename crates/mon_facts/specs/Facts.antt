@@ -21,6 +21,7 @@ use Rattle.mon_facts.specs.Tables.{IsRooted}
 
 -- ---- regions
 
+-- the owner is the enclave in slot e
 abbrev pub is_enclave : ℕ → Owner → Bool
 is_enclave e owners.Os = false
 is_enclave e (owners.Enclave f) = e == f
@@ -71,18 +72,23 @@ InsideAreRunning s = (core e t : ℕ) → mode_of s core ≡ modes.Inside e t �
 
 -- with a thread that is Running there a core of the machine is inside,
 abbrev pub RunningAreInside : State → Type 0
-RunningAreInside s = (e t : ℕ) → (thread_at s t).state ≡ states.Running e → (core : ℕ) × (core < s.shape.cores) × (mode_of s core ≡ modes.Inside e t)
+RunningAreInside s =
+    (e t : ℕ) → (thread_at s t).state ≡ states.Running e → (core : ℕ) × (core < s.shape.cores)
+    × (mode_of s core ≡ modes.Inside e t)
 
 -- and no two cores are inside with one thread.
 abbrev pub InsideAreAlone : State → Type 0
-InsideAreAlone s = (core other e t : ℕ) → mode_of s core ≡ modes.Inside e t → mode_of s other ≡ modes.Inside e t → other ≡ core
+InsideAreAlone s =
+    (core other e t : ℕ) → mode_of s core ≡ modes.Inside e t → mode_of s other ≡ modes.Inside e t → other ≡ core
 
 -- an enclave in which a thread is Running is Initialized
 abbrev pub RunningAreInitialized : State → Type 0
-RunningAreInitialized s = (e t : ℕ) → (thread_at s t).state ≡ states.Running e → is_initialized (enclave_at s e).stage ≡ true
+RunningAreInitialized s =
+    (e t : ℕ) → (thread_at s t).state ≡ states.Running e → is_initialized (enclave_at s e).stage ≡ true
 
 -- ---- loaded items
 
+-- a page whose region the enclave is to accept later
 abbrev pub is_reserved : LoadedKind → Bool
 is_reserved kinds.Table2 = false
 is_reserved kinds.Table1 = false
@@ -98,7 +104,8 @@ pub record IsPlaced (shape : Shape) (enclave : Enclave) (item : Loaded) : Type 0
 
 -- the items of a Loading enclave are so placed
 abbrev pub LoadedArePlaced : State → Type 0
-LoadedArePlaced s = (e : ℕ) → is_loading (enclave_at s e).stage ≡ true → All (IsPlaced s.shape (enclave_at s e)) (loaded_at s e)
+LoadedArePlaced s =
+    (e : ℕ) → is_loading (enclave_at s e).stage ≡ true → All (IsPlaced s.shape (enclave_at s e)) (loaded_at s e)
 
 -- A root's page is below the next that the enclave may take, and lies in a region of its set as long as the
 -- enclave is Loading.

@@ -12,6 +12,7 @@ use Rattle.mon_facts.specs.Facts.{FactsHold}
 abbrev pub StartHasTables : Type 0
 StartHasTables = (shape : Shape) → is_shape shape ≡ true → AreTables (start shape)
 
+-- after each call
 abbrev pub TablesStay : Type 0
 TablesStay =
     (s : State) (core : ℕ) (call : Call) (digest : List ℕ) (ticket : ℕ)
@@ -21,11 +22,13 @@ TablesStay =
 abbrev pub StartIsDated : Type 0
 StartIsDated = (shape : Shape) → AreDated 0 (start shape)
 
+-- after each call at the next ticket
 abbrev pub DatesStay : Type 0
 DatesStay =
     (s : State) (core : ℕ) (call : Call) (digest : List ℕ) (k : ℕ)
     → AreDated k s → AreDated (k + 1) (monitor_step s core call digest (k + 1)).0
 
+-- after a ticket that no call spends
 abbrev pub DatesStayUnused : Type 0
 DatesStayUnused = (s : State) (k : ℕ) → AreDated k s → AreDated (k + 1) s
 
@@ -33,6 +36,7 @@ DatesStayUnused = (s : State) (k : ℕ) → AreDated k s → AreDated (k + 1) s
 abbrev pub StartHasFacts : Type 0
 StartHasFacts = (shape : Shape) → FactsHold (start shape)
 
+-- after each call
 abbrev pub FactsStay : Type 0
 FactsStay =
     (s : State) (core : ℕ) (call : Call) (digest : List ℕ) (ticket : ℕ)

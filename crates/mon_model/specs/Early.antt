@@ -16,6 +16,7 @@ pub data Caller : Type 0 where
   TheOs : Caller
   AnEnclave : Caller
 
+-- who may make each call
 abbrev pub caller_of : Call → Caller
 caller_of (calls.Block r) = Anyone
 caller_of (calls.Free r) = TheOs
@@ -42,6 +43,7 @@ caller_of (calls.AcceptRegion r) = AnEnclave
 caller_of (calls.Reserve e va page perms) = TheOs
 caller_of (calls.Unknown number args) = Anyone
 
+-- whether a core in this mode is none of these
 abbrev pub shuts_out : Caller → Mode → Bool
 shuts_out Anyone modes.Os = false
 shuts_out Anyone (modes.Inside e t) = false
@@ -50,9 +52,11 @@ shuts_out TheOs (modes.Inside e t) = true
 shuts_out AnEnclave modes.Os = true
 shuts_out AnEnclave (modes.Inside e t) = false
 
+-- whether a core in this mode may not make the call
 abbrev pub is_wrong_mode : Mode → Call → Bool
 is_wrong_mode mode call = shuts_out (caller_of call) mode
 
+-- whether the call has no known number
 abbrev pub is_unsupported : Call → Bool
 is_unsupported (calls.Block r) = false
 is_unsupported (calls.Free r) = false
@@ -81,15 +85,19 @@ is_unsupported (calls.Unknown number args) = true
 
 -- ---- arguments out of range
 
+-- no enclave slot, no thread slot, no mailbox
 abbrev pub is_no_slot : ℕ → Bool
 is_no_slot e = nat_le 8 e
 
+-- no thread slot
 abbrev pub is_no_thread : ℕ → Bool
 is_no_thread t = nat_le 16 t
 
+-- no mailbox of an enclave
 abbrev pub is_no_mailbox : ℕ → Bool
 is_no_mailbox m = nat_le 2 m
 
+-- no region of the machine
 abbrev pub is_no_region : Shape → ℕ → Bool
 is_no_region shape r = nat_le shape.regions r
 
@@ -97,6 +105,7 @@ is_no_region shape r = nat_le shape.regions r
 abbrev pub is_fixed_region : Shape → ℕ → Bool
 is_fixed_region shape r = r == 0 || is_no_region shape r
 
+-- no page of DRAM
 abbrev pub is_no_page : Shape → ℕ → Bool
 is_no_page shape page = nat_le (page_total shape) page
 
@@ -120,6 +129,7 @@ is_bad_level va level = nat_lt 2 level || (level == 2 && not (va == 0))
 abbrev pub is_bad_satp : ℕ → Bool
 is_bad_satp v = not (v == 0) && not (v / 2 ^ 60 == 8 && v / 2 ^ 44 % 2 ^ 16 == 0)
 
+-- whether an argument of the call is out of range
 abbrev pub is_bad_value : Shape → Call → Bool
 is_bad_value shape (calls.Block r) = is_fixed_region shape r
 is_bad_value shape (calls.Free r) = is_fixed_region shape r
@@ -127,8 +137,10 @@ is_bad_value shape (calls.Assign r to) = is_fixed_region shape r || (is_no_slot 
 is_bad_value shape calls.Flush = false
 is_bad_value shape (calls.RegionInfo r) = is_no_region shape r
 is_bad_value shape (calls.Create e base size) = is_no_slot e || is_bad_range base size
-is_bad_value shape (calls.LoadTable e va level page) = is_no_slot e || is_bad_address va || is_no_page shape page || is_bad_level va level
-is_bad_value shape (calls.LoadPage e va page src perms) = is_no_slot e || is_bad_address va || is_no_page shape page || is_no_page shape src || are_bad_perms perms
+is_bad_value shape (calls.LoadTable e va level page) =
+    is_no_slot e || is_bad_address va || is_no_page shape page || is_bad_level va level
+is_bad_value shape (calls.LoadPage e va page src perms) =
+    is_no_slot e || is_bad_address va || is_no_page shape page || is_no_page shape src || are_bad_perms perms
 is_bad_value shape (calls.LoadThread e t entry sp) = is_no_slot e || is_no_thread t || not (entry % 4 == 0)
 is_bad_value shape (calls.Init e) = is_no_slot e
 is_bad_value shape (calls.DeleteThread e t) = is_no_slot e || is_no_thread t
@@ -143,7 +155,8 @@ is_bad_value shape (calls.Read m) = is_no_mailbox m
 is_bad_value shape (calls.EnclaveInfo e) = is_no_slot e
 is_bad_value shape (calls.SetSatp v) = is_bad_satp v
 is_bad_value shape (calls.AcceptRegion r) = is_fixed_region shape r
-is_bad_value shape (calls.Reserve e va page perms) = is_no_slot e || is_bad_address va || is_no_page shape page || are_bad_perms perms
+is_bad_value shape (calls.Reserve e va page perms) =
+    is_no_slot e || is_bad_address va || is_no_page shape page || are_bad_perms perms
 is_bad_value shape (calls.Unknown number args) = false
 
 -- the refusal of a call that comes before any lock, if there is one

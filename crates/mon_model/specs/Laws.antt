@@ -11,11 +11,15 @@ use Rattle.mon_model.specs.Step.{monitor_step}
 
 -- a refusal leaves the state as it was
 abbrev pub RefusalChangesNothing : Type 0
-RefusalChangesNothing = (s : State) (core : ℕ) (call : Call) (digest : List ℕ) (ticket : ℕ) → is_done (monitor_step s core call digest ticket).1 ≡ false → (monitor_step s core call digest ticket).0 ≡ s
+RefusalChangesNothing =
+    (s : State) (core : ℕ) (call : Call) (digest : List ℕ) (ticket : ℕ)
+    → is_done (monitor_step s core call digest ticket).1 ≡ false → (monitor_step s core call digest ticket).0 ≡ s
 
 -- no call of the sequential monitor meets a lock that another core holds
 abbrev pub NeverConcurrent : Type 0
-NeverConcurrent = (s : State) (core : ℕ) (call : Call) (digest : List ℕ) (ticket : ℕ) → is_concurrent (monitor_step s core call digest ticket).1 ≡ false
+NeverConcurrent =
+    (s : State) (core : ℕ) (call : Call) (digest : List ℕ) (ticket : ℕ)
+    → is_concurrent (monitor_step s core call digest ticket).1 ≡ false
 
 -- From state s to state t a call of this core changed no more than the records of these objects, the
 -- items of these enclaves, and the mode of the core.
@@ -30,7 +34,9 @@ pub record ChangesOnly (s t : State) (core : ℕ) (tried : List ObjectId) : Type
 
 -- a call changes no record but those of the objects that it tries, and its core's mode
 abbrev pub ChangesOnlyTried : Type 0
-ChangesOnlyTried = (s : State) (core : ℕ) (call : Call) (digest : List ℕ) (ticket : ℕ) → ChangesOnly s (monitor_step s core call digest ticket).0 core (tries s core call)
+ChangesOnlyTried =
+    (s : State) (core : ℕ) (call : Call) (digest : List ℕ) (ticket : ℕ)
+    → ChangesOnly s (monitor_step s core call digest ticket).0 core (tries s core call)
 
 -- States s and t agree on the records of these objects, on the items of these enclaves, and on the mode
 -- of this core.
@@ -48,15 +54,21 @@ pub record AgreeOn (s t : State) (core : ℕ) (tried : List ObjectId) : Type 0 w
 pub record SameCall (s t : State) (core : ℕ) (call : Call) (digest : List ℕ) (ticket : ℕ) : Type 0 where
   pub reply : (monitor_step t core call digest ticket).1 ≡ (monitor_step s core call digest ticket).1
   pub objects : tries t core call ≡ tries s core call
-  pub records : AgreeOn (monitor_step s core call digest ticket).0 (monitor_step t core call digest ticket).0 core (tries s core call)
+  pub records :
+      AgreeOn (monitor_step s core call digest ticket).0 (monitor_step t core call digest ticket).0 core (tries s core call)
 
 -- a call reads no record but those of the objects that it tries, and its core's mode
 abbrev pub ReadsOnlyTried : Type 0
-ReadsOnlyTried = (s t : State) (core : ℕ) (call : Call) (digest : List ℕ) (ticket : ℕ) → IsWhole s → IsWhole t → AgreeOn s t core (tries s core call) → SameCall s t core call digest ticket
+ReadsOnlyTried =
+    (s t : State) (core : ℕ) (call : Call) (digest : List ℕ) (ticket : ℕ) → IsWhole s → IsWhole t
+    → AgreeOn s t core (tries s core call) → SameCall s t core call digest ticket
 
 -- the start is whole, and each call leaves a whole state whole
 abbrev pub StartIsWhole : Type 0
 StartIsWhole = (shape : Shape) → IsWhole (start shape)
 
+-- each call leaves a whole state whole
 abbrev pub StaysWhole : Type 0
-StaysWhole = (s : State) (core : ℕ) (call : Call) (digest : List ℕ) (ticket : ℕ) → IsWhole s → IsWhole (monitor_step s core call digest ticket).0
+StaysWhole =
+    (s : State) (core : ℕ) (call : Call) (digest : List ℕ) (ticket : ℕ) → IsWhole s
+    → IsWhole (monitor_step s core call digest ticket).0

@@ -23,6 +23,7 @@ served_part kinds.Reserved va = va / 2 ^ 12
 abbrev pub is_there_for : ℕ → Loaded → Bool
 is_there_for va item = served_part item.kind item.va == served_part item.kind va
 
+-- a table of level 1
 abbrev pub is_table_1 : LoadedKind → Bool
 is_table_1 kinds.Table2 = false
 is_table_1 kinds.Table1 = true
@@ -30,6 +31,7 @@ is_table_1 kinds.Table0 = false
 is_table_1 kinds.Page = false
 is_table_1 kinds.Reserved = false
 
+-- a table of level 0
 abbrev pub is_table_0 : LoadedKind → Bool
 is_table_0 kinds.Table2 = false
 is_table_0 kinds.Table1 = false
@@ -37,6 +39,7 @@ is_table_0 kinds.Table0 = true
 is_table_0 kinds.Page = false
 is_table_0 kinds.Reserved = false
 
+-- a page or a reserved page
 abbrev pub is_leaf : LoadedKind → Bool
 is_leaf kinds.Table2 = false
 is_leaf kinds.Table1 = false
@@ -49,9 +52,11 @@ is_leaf kinds.Reserved = true
 abbrev pub has_table_1 : ℕ → List Loaded → Bool
 has_table_1 va items = list_any (λ item. is_table_1 item.kind && is_there_for va item) items
 
+-- the entry below it, in the table of level 1
 abbrev pub has_table_0 : ℕ → List Loaded → Bool
 has_table_0 va items = list_any (λ item. is_table_0 item.kind && is_there_for va item) items
 
+-- the entry below that, in the table of level 0
 abbrev pub has_leaf : ℕ → List Loaded → Bool
 has_leaf va items = list_any (λ item. is_leaf item.kind && is_there_for va item) items
 
@@ -61,9 +66,11 @@ StandInPages shape items = AllByRecursion (λ item. item.page < page_total shape
 
 -- ---- what the enclave's record decides
 
+-- the address is in the enclave's range
 abbrev pub in_range : Enclave → ℕ → Bool
 in_range enclave va = nat_le enclave.base va && nat_lt va (enclave.base + enclave.size)
 
+-- the enclave has a root page table
 abbrev pub has_root : Enclave → Bool
 has_root enclave = is_some enclave.root
 
@@ -75,18 +82,22 @@ is_next_page enclave page = is_loading enclave.stage && nat_le enclave.next_page
 abbrev pub takes_page : Shape → Enclave → ℕ → Bool
 takes_page shape enclave page = is_next_page enclave page && has_bit enclave.regions (region_of_page shape page)
 
+-- the page of a reserve
 abbrev pub reserves_page : Shape → Enclave → ℕ → Bool
-reserves_page shape enclave page = is_next_page enclave page && not (has_bit enclave.regions (region_of_page shape page))
+reserves_page shape enclave page =
+    is_next_page enclave page && not (has_bit enclave.regions (region_of_page shape page))
 
 -- ---- what the items decide
 
 -- whether a table of this level finds its place empty and its parents there
 abbrev pub has_place_for_table : List Loaded → ℕ → ℕ → Bool
-has_place_for_table items va level = if level == 1 then not (has_table_1 va items) else has_table_1 va items && not (has_table_0 va items)
+has_place_for_table items va level =
+    if level == 1 then not (has_table_1 va items) else has_table_1 va items && not (has_table_0 va items)
 
 -- whether a leaf does
 abbrev pub has_place_for_leaf : List Loaded → ℕ → Bool
 has_place_for_leaf items va = has_table_1 va items && has_table_0 va items && not (has_leaf va items)
 
+-- the kind of a table of this level
 abbrev pub table_kind : ℕ → LoadedKind
 table_kind level = if level == 2 then kinds.Table2 else if level == 1 then kinds.Table1 else kinds.Table0

@@ -9,12 +9,15 @@ use Rattle.mon_types.specs.declared.reply.Reply.TheVariants as replies
 use Rattle.mon_types.specs.Replies.{told_eight, done_if}
 use Rattle.mon_model.specs.RegionCalls.{is_initialized}
 
+-- mailbox m of an enclave
 abbrev pub mailbox_at : Enclave → ℕ → Mailbox
 mailbox_at enclave m = slice_index_or enclave.mail m boxes.Closed
 
+-- the enclave with another mailbox m
 abbrev pub with_mailbox : Enclave → ℕ → Mailbox → Enclave
 with_mailbox enclave m mailbox = record enclave { mail = slice_set enclave.mail m mailbox }
 
+-- whether the mailbox waits for a message of this sender
 abbrev pub expects : ℕ → Mailbox → Bool
 expects sender boxes.Closed = false
 expects sender (boxes.Expecting from) = sender == from
@@ -22,6 +25,7 @@ expects sender (boxes.Full from words measure) = false
 
 -- ---- send, by the enclave in slot own
 
+-- a message goes to an enclave that is whole and expects it in this mailbox
 abbrev pub send_reply : ℕ → Enclave → ℕ → Reply
 send_reply own target m = done_if (is_initialized target.stage && expects own (mailbox_at target m))
 
@@ -37,5 +41,6 @@ mail_reply boxes.Closed = replies.InvalidState
 mail_reply (boxes.Expecting from) = replies.InvalidState
 mail_reply (boxes.Full from words measure) = told_eight (words ++ measure)
 
+-- a full mailbox is read
 abbrev pub read_reply : Enclave → ℕ → Reply
 read_reply own m = mail_reply (mailbox_at own m)

@@ -33,13 +33,20 @@ item_bytes Init = 5 ∷ []
 abbrev pub chain_start : List ℕ
 chain_start = replicate 32 0
 
+-- the chain with one more item
 unfoldable pub extend : List ℕ → Item → List ℕ
 extend measure item = sha256 (measure ++ item_bytes item)
 
 -- the four words of a measurement: its bytes read little-endian, eight at a time
 abbrev pub to_words : List ℕ → List ℕ
-to_words bytes = from_le_bytes w64 (take 8 bytes) ∷ from_le_bytes w64 (take 8 (drop 8 bytes)) ∷ from_le_bytes w64 (take 8 (drop 16 bytes)) ∷ from_le_bytes w64 (take 8 (drop 24 bytes)) ∷ []
+to_words bytes =
+    from_le_bytes w64 (take 8 bytes)
+    ∷ from_le_bytes w64 (take 8 (drop 8 bytes))
+    ∷ from_le_bytes w64 (take 8 (drop 16 bytes))
+    ∷ from_le_bytes w64 (take 8 (drop 24 bytes))
+    ∷ []
 
+-- and back: 32 bytes, eight for each word
 abbrev pub to_bytes : List ℕ → List ℕ
 to_bytes words = flat_map number_bytes words
 
@@ -47,6 +54,7 @@ to_bytes words = flat_map number_bytes words
 unfoldable pub measure_created : ℕ → ℕ → List ℕ
 measure_created base size = to_words (extend chain_start (Create base size))
 
+-- the words of a measurement with one more item
 unfoldable pub measure_with : List ℕ → Item → List ℕ
 measure_with words item = to_words (extend (to_bytes words) item)
 

@@ -26,10 +26,12 @@ answered_in s core call digest = record { call = call; reply = reply_of s core c
 abbrev pub items_by : ℕ → Call → List ℕ → List Item → List Item
 items_by e (calls.Create f base size) digest items = if f == e then Create base size ∷ [] else items
 items_by e (calls.LoadTable f va level page) digest items = if f == e then items ++ Table va level ∷ [] else items
-items_by e (calls.LoadPage f va page src perms) digest items = if f == e then items ++ Page va perms digest ∷ [] else items
+items_by e (calls.LoadPage f va page src perms) digest items =
+    if f == e then items ++ Page va perms digest ∷ [] else items
 items_by e (calls.LoadThread f t entry sp) digest items = if f == e then items ++ Thread entry sp ∷ [] else items
 items_by e (calls.Init f) digest items = if f == e then items ++ Init ∷ [] else items
-items_by e (calls.Reserve f va page perms) digest items = if f == e then items ++ Table va (reserved_level perms) ∷ [] else items
+items_by e (calls.Reserve f va page perms) digest items =
+    if f == e then items ++ Table va (reserved_level perms) ∷ [] else items
 items_by e _ digest items = items
 
 -- after any call: a refused one, or one that met a held lock, adds nothing
@@ -44,6 +46,7 @@ items_of h e = fold (items_after e) [] h
 abbrev pub chain_of : List Item → List ℕ
 chain_of items = fold extend chain_start items
 
+-- the four words of that digest
 abbrev pub measure_of : List Item → List ℕ
 measure_of items = to_words (chain_of items)
 

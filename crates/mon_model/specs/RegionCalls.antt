@@ -20,6 +20,7 @@ use Rattle.mon_types.specs.Replies.{done, told_four}
 abbrev pub loses_region : Enclave → ℕ → Enclave
 loses_region enclave r = record enclave { regions = without_bit enclave.regions r }
 
+-- the enclave gains a region
 abbrev pub gains_region : Enclave → ℕ → Enclave
 gains_region enclave r = record enclave { regions = with_bit enclave.regions r }
 
@@ -53,26 +54,31 @@ blocked (regions.Offered to at) k = regions.Blocked (owners.Enclave to) at k
 abbrev pub free_reply : Region → List ℕ → Reply
 free_reply regions.Free flushed = replies.InvalidState
 free_reply (regions.Owned owner since) flushed = replies.InvalidState
-free_reply (regions.Blocked owner since at) flushed = if list_all (λ ticket. nat_le at ticket) flushed then done else replies.NotFlushed
+free_reply (regions.Blocked owner since at) flushed =
+    if list_all (λ ticket. nat_le at ticket) flushed then done else replies.NotFlushed
 free_reply (regions.Offered to at) flushed = replies.InvalidState
 
 -- ---- assign
 
+-- the slot holds no enclave
 abbrev pub is_empty : Stage → Bool
 is_empty stages.Empty = true
 is_empty stages.Loading = false
 is_empty stages.Initialized = false
 
+-- the enclave is being loaded
 abbrev pub is_loading : Stage → Bool
 is_loading stages.Empty = false
 is_loading stages.Loading = true
 is_loading stages.Initialized = false
 
+-- the enclave is whole and may run
 abbrev pub is_initialized : Stage → Bool
 is_initialized stages.Empty = false
 is_initialized stages.Loading = false
 is_initialized stages.Initialized = true
 
+-- the region is free to be assigned
 abbrev pub is_free : Region → Bool
 is_free regions.Free = true
 is_free (regions.Owned owner since) = false
@@ -93,11 +99,13 @@ assigned stages.Empty e k = regions.Owned (owners.Enclave e) k
 assigned stages.Loading e k = regions.Owned (owners.Enclave e) k
 assigned stages.Initialized e k = regions.Offered e k
 
+-- the record of that enclave: one that is offered the region does not have it yet
 abbrev pub with_assigned : Enclave → ℕ → Enclave
 with_assigned enclave r = if is_initialized enclave.stage then enclave else gains_region enclave r
 
 -- ---- region_info
 
+-- the word by which a reply names an owner: the enclave's slot, or the word for the OS
 abbrev pub owner_word : Owner → ℕ
 owner_word owners.Os = os_word
 owner_word (owners.Enclave e) = e
@@ -111,6 +119,7 @@ region_info_reply (regions.Offered to at) = told_four 3 to 0 at
 
 -- ---- accept_region, by the enclave in this slot
 
+-- an offer is accepted by the enclave to which it was made alone
 abbrev pub accept_region_reply : ℕ → Region → Reply
 accept_region_reply own regions.Free = replies.InvalidState
 accept_region_reply own (regions.Owned owner since) = replies.InvalidState

@@ -51,18 +51,23 @@ pub record IsWhole (s : State) : Type 0 where
 abbrev pub region_at : State → ℕ → Region
 region_at s r = slice_index_or s.regions r regions.Free
 
+-- the record of an enclave slot
 abbrev pub enclave_at : State → ℕ → Enclave
 enclave_at s e = slice_index_or s.enclaves e empty_enclave
 
+-- the record of a thread slot
 abbrev pub thread_at : State → ℕ → Thread
 thread_at s t = slice_index_or s.threads t empty_thread
 
+-- the ticket of a core's last flush
 abbrev pub flushed_at : State → ℕ → ℕ
 flushed_at s core = slice_index_or s.flushed core 0
 
+-- for whom a core runs
 abbrev pub mode_of : State → ℕ → Mode
 mode_of s core = slice_index_or s.modes core modes.Os
 
+-- the items loaded into an enclave slot
 abbrev pub loaded_at : State → ℕ → List Loaded
 loaded_at s e = slice_index_or s.loaded e []
 
@@ -70,18 +75,23 @@ loaded_at s e = slice_index_or s.loaded e []
 abbrev pub with_region : State → ℕ → Region → State
 with_region s r region = record s { regions = slice_set s.regions r region }
 
+-- another record of an enclave slot
 abbrev pub with_enclave : State → ℕ → Enclave → State
 with_enclave s e enclave = record s { enclaves = slice_set s.enclaves e enclave }
 
+-- another record of a thread slot
 abbrev pub with_thread : State → ℕ → Thread → State
 with_thread s t thread = record s { threads = slice_set s.threads t thread }
 
+-- another flush ticket of a core
 abbrev pub with_flushed : State → ℕ → ℕ → State
 with_flushed s core ticket = record s { flushed = slice_set s.flushed core ticket }
 
+-- another mode of a core
 abbrev pub with_mode : State → ℕ → Mode → State
 with_mode s core mode = record s { modes = slice_set s.modes core mode }
 
 -- The state with another record and other items at one enclave slot.
 abbrev pub with_slot : State → ℕ → Enclave → List Loaded → State
-with_slot s e enclave items = record s { enclaves = slice_set s.enclaves e enclave; loaded = slice_set s.loaded e items }
+with_slot s e enclave items =
+    record s { enclaves = slice_set s.enclaves e enclave; loaded = slice_set s.loaded e items }

@@ -34,6 +34,7 @@ assignee s to = if to == os_word then None else Some (enclave_at s to)
 
 -- ---- the reply once the objects are held
 
+-- of each call, from the state
 abbrev pub held_reply : State → ℕ → Call → Reply
 held_reply s core (calls.Block r) = block_reply (mode_of s core) (region_at s r)
 held_reply s core (calls.Free r) = free_reply (region_at s r) s.flushed
@@ -41,8 +42,10 @@ held_reply s core (calls.Assign r to) = assign_reply (assignee s to) (region_at 
 held_reply s core calls.Flush = done
 held_reply s core (calls.RegionInfo r) = region_info_reply (region_at s r)
 held_reply s core (calls.Create e base size) = create_reply (enclave_at s e)
-held_reply s core (calls.LoadTable e va level page) = load_table_reply s.shape (enclave_at s e) (loaded_at s e) va level page
-held_reply s core (calls.LoadPage e va page src perms) = load_page_reply s.shape (enclave_at s e) (loaded_at s e) (region_at s (region_of_page s.shape src)) va page
+held_reply s core (calls.LoadTable e va level page) =
+    load_table_reply s.shape (enclave_at s e) (loaded_at s e) va level page
+held_reply s core (calls.LoadPage e va page src perms) =
+    load_page_reply s.shape (enclave_at s e) (loaded_at s e) (region_at s (region_of_page s.shape src)) va page
 held_reply s core (calls.LoadThread e t entry sp) = load_thread_reply (enclave_at s e) (thread_at s t)
 held_reply s core (calls.Init e) = init_reply (enclave_at s e)
 held_reply s core (calls.DeleteThread e t) = delete_thread_reply e (thread_at s t)
@@ -87,34 +90,58 @@ with_deleted s (r ∷ rs) k = with_deleted (with_region s r (deleted (region_at 
 abbrev pub regions_of : State → ℕ → List ℕ
 regions_of s e = members (enclave_at s e).regions s.shape.regions
 
+-- of each call, at ticket k; digest is that of the page that a load_page reads
 abbrev pub effect : State → ℕ → Call → List ℕ → ℕ → State
-effect s core (calls.Block r) digest k = with_region (without_own_region s (mode_of s core) r) r (blocked (region_at s r) k)
+effect s core (calls.Block r) digest k =
+    with_region (without_own_region s (mode_of s core) r) r (blocked (region_at s r) k)
 effect s core (calls.Free r) digest k = with_region s r regions.Free
 effect s core (calls.Assign r to) digest k = assign_effect s r to k
 effect s core calls.Flush digest k = with_flushed s core k
 effect s core (calls.RegionInfo r) digest k = s
 effect s core (calls.Create e base size) digest k = with_slot s e (created base size) []
-effect s core (calls.LoadTable e va level page) digest k = with_item s e (with_table (enclave_at s e) va level page) (table_kind level) va page
-effect s core (calls.LoadPage e va page src perms) digest k = with_item s e (with_page (enclave_at s e) va page perms digest) kinds.Page va page
-effect s core (calls.LoadThread e t entry sp) digest k = with_thread (with_enclave s e (with_thread_loaded (enclave_at s e) entry sp)) t (ready e entry sp)
+effect s core (calls.LoadTable e va level page) digest k =
+    with_item s e (with_table (enclave_at s e) va level page) (table_kind level) va page
+effect s core (calls.LoadPage e va page src perms) digest k =
+    with_item s e (with_page (enclave_at s e) va page perms digest) kinds.Page va page
+effect s core (calls.LoadThread e t entry sp) digest k =
+    with_thread (with_enclave s e (with_thread_loaded (enclave_at s e) entry sp)) t (ready e entry sp)
 effect s core (calls.Init e) digest k = with_enclave s e (initialized (enclave_at s e))
-effect s core (calls.DeleteThread e t) digest k = with_thread (with_enclave s e (without_thread (enclave_at s e))) t empty_thread
+effect s core (calls.DeleteThread e t) digest k =
+    with_thread (with_enclave s e (without_thread (enclave_at s e))) t empty_thread
 effect s core (calls.Delete e) digest k = with_slot (with_deleted s (regions_of s e) k) e empty_enclave []
-effect s core (calls.Enter e t) digest k = with_mode (with_thread s t (running e (thread_at s t))) core (modes.Inside e t)
-effect s core calls.Exit digest k = with_mode (with_thread s (own_thread (mode_of s core)) (left (thread_at s (own_thread (mode_of s core))))) core modes.Os
-effect s core (calls.Aex saved) digest k = with_mode (with_thread s (own_thread (mode_of s core)) (left_saving (thread_at s (own_thread (mode_of s core))) saved k)) core modes.Os
-effect s core calls.Restore digest k = with_thread s (own_thread (mode_of s core)) (restored (thread_at s (own_thread (mode_of s core))))
-effect s core (calls.Accept m from) digest k = with_enclave s (own_slot (mode_of s core)) (with_mailbox (enclave_at s (own_slot (mode_of s core))) m (boxes.Expecting from))
-effect s core (calls.Send to m w0 w1 w2 w3) digest k = with_enclave s to (with_mailbox (enclave_at s to) m (sent (own_slot (mode_of s core)) (w0 ∷ w1 ∷ w2 ∷ w3 ∷ []) (enclave_at s (own_slot (mode_of s core))).measure))
-effect s core (calls.Read m) digest k = with_enclave s (own_slot (mode_of s core)) (with_mailbox (enclave_at s (own_slot (mode_of s core))) m boxes.Closed)
+effect s core (calls.Enter e t) digest k =
+    with_mode (with_thread s t (running e (thread_at s t))) core (modes.Inside e t)
+effect s core calls.Exit digest k =
+    let own = own_thread (mode_of s core) in
+    with_mode (with_thread s own (left (thread_at s own))) core modes.Os
+effect s core (calls.Aex saved) digest k =
+    let own = own_thread (mode_of s core) in
+    with_mode (with_thread s own (left_saving (thread_at s own) saved k)) core modes.Os
+effect s core calls.Restore digest k =
+    let own = own_thread (mode_of s core) in
+    with_thread s own (restored (thread_at s own))
+effect s core (calls.Accept m from) digest k =
+    let own = own_slot (mode_of s core) in
+    with_enclave s own (with_mailbox (enclave_at s own) m (boxes.Expecting from))
+effect s core (calls.Send to m w0 w1 w2 w3) digest k =
+    let own = own_slot (mode_of s core) in
+    let message = sent own (w0 ∷ w1 ∷ w2 ∷ w3 ∷ []) (enclave_at s own).measure in
+    with_enclave s to (with_mailbox (enclave_at s to) m message)
+effect s core (calls.Read m) digest k =
+    let own = own_slot (mode_of s core) in
+    with_enclave s own (with_mailbox (enclave_at s own) m boxes.Closed)
 effect s core (calls.EnclaveInfo e) digest k = s
 effect s core (calls.SetSatp v) digest k = s
-effect s core (calls.AcceptRegion r) digest k = with_enclave (with_region s r (regions.Owned (owners.Enclave (own_slot (mode_of s core))) k)) (own_slot (mode_of s core)) (gains_region (enclave_at s (own_slot (mode_of s core))) r)
-effect s core (calls.Reserve e va page perms) digest k = with_item s e (with_reserved (enclave_at s e) va page perms) kinds.Reserved va page
+effect s core (calls.AcceptRegion r) digest k =
+    let own = own_slot (mode_of s core) in
+    with_enclave (with_region s r (regions.Owned (owners.Enclave own) k)) own (gains_region (enclave_at s own) r)
+effect s core (calls.Reserve e va page perms) digest k =
+    with_item s e (with_reserved (enclave_at s e) va page perms) kinds.Reserved va page
 effect s core (calls.Unknown number args) digest k = s
 
 -- ---- the step
 
+-- the refusal, if there is one, else the reply
 abbrev pub or_else : Option Reply → Reply → Reply
 or_else None reply = reply
 or_else (Some refusal) reply = refusal

@@ -30,7 +30,8 @@ abbrev pub items_after : Call → List Loaded → List Loaded
 items_after (calls.Create e base size) items = []
 items_after (calls.LoadTable e va level page) items =
     items ++ record { kind = table_kind level; va = va; page = page } ∷ []
-items_after (calls.LoadPage e va page src perms) items = items ++ record { kind = kinds.Page; va = va; page = page } ∷ []
+items_after (calls.LoadPage e va page src perms) items =
+    items ++ record { kind = kinds.Page; va = va; page = page } ∷ []
 items_after (calls.Delete e) items = []
 items_after (calls.Reserve e va page perms) items =
     items ++ record { kind = kinds.Reserved; va = va; page = page } ∷ []

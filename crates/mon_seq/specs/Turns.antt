@@ -23,5 +23,6 @@ then_turns m turns = fold then_turn m turns
 -- the calls among these turns in order, as the monitor answers them
 abbrev pub answers : Sequential → List Turn → List Answered
 answers m [] = []
-answers m (kinds.Call core call digest ∷ turns) = answered_in m.state core call digest ∷ answers (then_call m core call digest) turns
+answers m (kinds.Call core call digest ∷ turns) =
+    answered_in m.state core call digest ∷ answers (then_call m core call digest) turns
 answers m (kinds.Skip ∷ turns) = answers (then_skip m) turns

@@ -8,6 +8,7 @@ pub record Shape : Type 0 where
   pub pages : ℕ
   pub shift : ℕ
 
+-- the shape of these numbers
 abbrev pub shape_of : ℕ → ℕ → ℕ → ℕ → Shape
 shape_of cores regions pages shift = record { cores = cores; regions = regions; pages = pages; shift = shift }
 
