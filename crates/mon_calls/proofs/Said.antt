@@ -30,6 +30,8 @@ use Rattle.lock_plan.specs.Records.{records_of}
 use Rattle.mon_calls.specs.OnHeld.{second_enclave, tickets_held}
 use Rattle.mon_calls.specs.Replied.{replied}
 use Rattle.mon_calls.specs.Decided.{AreWords, IsReply}
+use Rattle.mon_calls.specs.OnCore.{core_change, IsChange}
+use Rattle.core_context.specs.Changes.{change_of}
 
 -- ---- records by their places
 
@@ -121,3 +123,13 @@ is_reply shape core mode call held words valid none s has given =
     ∙ ap (λ m. replied s.shape m call (records_of s (held_tries s core call)) words) (sym has.caller)
     ∙ said s core call words (ap is_shape has.machine ∙ valid) has.whole given none
     ∙ ap (λ o. or_else o (held_reply s core call)) (sym none)
+
+-- ---- what Ok does to the core
+
+change_said : (s : State) (core : ℕ) (call : Call) → core_change call (records_of s (held_tries s core call)) ≡ change_of s core call
+change_said s core calls.Flush = refl
+change_said s core _ = refl
+
+pub is_change : (call : Call) (held : Held) → IsChange call held (core_change call held)
+is_change call held s core none records =
+    ap (core_change call) (records ∙ ap (records_of s) (tries_held s core call none)) ∙ change_said s core call

@@ -1,4 +1,5 @@
 pub mod OnHeld
 pub mod Replied
 pub mod Left
+pub mod OnCore
 pub mod Decided

@@ -1,10 +1,11 @@
-//! One monitor call on the records of the objects that it tries: what it answers (`decide`), and which
-//! records an Ok leaves (`apply`). A core that holds locks has no more than these records; what is said
+//! One monitor call on the records of the objects that it tries: what it answers (`decide`), which records
+//! an Ok leaves (`apply`), and what it does to the core (`core_change`). A core that holds locks has no more than these records; what is said
 //! here is said of every state of the monitor that has them.
 #![tactic(auto)]
 
 mod enclaves;
 mod mail;
+mod on_core;
 mod put;
 mod read;
 mod records;
@@ -12,5 +13,7 @@ mod regions;
 mod replies;
 mod threads;
 
+pub use on_core::core_change;
+pub use read::{enclave_held, region_held, second_enclave_held, thread_held};
 pub use records::apply;
 pub use replies::decide;

@@ -4,3 +4,4 @@ pub mod Made
 pub mod Loop
 pub mod Runs
 pub mod Whole
+pub mod Places

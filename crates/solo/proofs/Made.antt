@@ -1,5 +1,5 @@
 -- What a call that answers Ok makes of the core, from what each part of it was made.
-use Rattle.std.proofs.Common.{◌≡◌, ◌≢◌, ℕ, ◌+◌, Bool, true, cond, List, [], ◌∷◌, ◌++◌, length, map, Option, None, sym, ap, ◌∙◌, append_assoc}
+use Rattle.std.proofs.Common.{◌≡◌, ℕ, ◌+◌, Bool, true, cond, List, [], ◌∷◌, ◌++◌, length, map, Option, None, sym, ap, ◌∙◌, append_assoc}
 use Rattle.mon_types.specs.declared.call.Call.{Call}
 use Rattle.mon_types.specs.declared.reply.Reply.{Reply}
 use Rattle.mon_types.specs.declared.object.Tried.{Tried}
@@ -13,31 +13,28 @@ use Rattle.dram_map.specs.Words.{word_at}
 use Rattle.core_context.specs.declared.after.After.TheVariants as afters
 use Rattle.core_context.specs.Changes.{change_of, changed}
 use Rattle.solo.specs.Solo.{Core, pte_places, source_words, page_input, stored, leaving_of, called}
-use Rattle.solo.proofs.Done.{input_is, digest_is}
+use Rattle.solo.proofs.Done.{digest_is}
 
 -- the parts of a core after a call, where the places, the page, the reply and the tried objects are these
-pub record HasParts (c : Core) (call : Call) (places : List ℕ) (input page : Option PageInput) (reply : Reply) (tried : Tried) (d : Core) : Type 0 where
+pub record HasParts (c : Core) (call : Call) (places : List ℕ) (page : Option PageInput) (reply : Reply) (tried : Tried) (d : Core) : Type 0 where
   pub ok : is_done (reply_of c.state 0 call) ≡ true
   pub path : places ≡ pte_places c call
-  pub read : places ≢ [] → input ≡ page_input c.words call (length c.answers + length places)
-  pub unread : places ≡ [] → input ≡ None
-  pub told : page ≡ input
+  pub told : page ≡ page_input c.words call (length c.answers + length places)
   pub answers_so : reply ≡ reply_of c.state 0 call
   pub objects : tried ≡ tried_set (tries c.state 0 call)
-  pub state : d.state ≡ after c.state 0 call (digest_of input) (c.made + 1)
+  pub state : d.state ≡ after c.state 0 call (digest_of page) (c.made + 1)
   pub made : d.made ≡ c.made + 1
   pub contexts : d.contexts ≡ changed c.contexts (change_of c.state 0 call) (leaving_of call)
   pub words : d.words ≡ stored c.state.shape call places c.words
   pub answers : d.answers ≡ c.answers ++ map (word_at c.words) places ++ source_words c.words call
   pub log : d.log ≡ c.log ++ events.Entry record { ticket = c.made + 1; core = 0; serial = c.made; call = call; page = page; reply = reply; tried = tried } ∷ []
 
-pub made_so : (c : Core) (call : Call) (places : List ℕ) (input page : Option PageInput) (reply : Reply) (tried : Tried) (d : Core) → HasParts c call places input page reply tried d → d ≡ called c call
-made_so c call places input page reply tried d p =
+pub made_so : (c : Core) (call : Call) (places : List ℕ) (page : Option PageInput) (reply : Reply) (tried : Tried) (d : Core) → HasParts c call places page reply tried d → d ≡ called c call
+made_so c call places page reply tried d p =
     let at : ℕ = length c.answers + length places in
     let same_at : at ≡ length c.answers + length (pte_places c call) = ap (λ (l : List ℕ). length c.answers + length l) p.path in
-    let input_so : input ≡ page_input c.words call at = input_is c call places input at p.ok p.path p.read p.unread in
     let state : d.state ≡ (called c call).state =
-    p.state ∙ ap (λ (i : Option PageInput). after c.state 0 call (digest_of i) (c.made + 1)) input_so ∙ ap (λ (digest : List ℕ). after c.state 0 call digest (c.made + 1)) (digest_is c.words call at) in
+    p.state ∙ ap (λ (i : Option PageInput). after c.state 0 call (digest_of i) (c.made + 1)) p.told ∙ ap (λ (digest : List ℕ). after c.state 0 call digest (c.made + 1)) (digest_is c.words call at) in
     let contexts : d.contexts ≡ (called c call).contexts =
     p.contexts ∙ sym (ap (λ (b : Bool). changed c.contexts (cond b (change_of c.state 0 call) afters.Nothing) (leaving_of call)) p.ok) in
     let words : d.words ≡ (called c call).words =
@@ -47,7 +44,7 @@ made_so c call places input page reply tried d p =
     ∙ ap (λ (l : List ℕ). c.answers ++ (map (word_at c.words) l ++ source_words c.words call)) p.path
     ∙ sym (ap (λ (b : Bool). c.answers ++ (map (word_at c.words) (pte_places c call) ++ cond b (source_words c.words call) [])) p.ok) in
     let page_so : page ≡ cond (is_done (reply_of c.state 0 call)) (page_input c.words call (length c.answers + length (pte_places c call))) None =
-    p.told ∙ input_so ∙ ap (page_input c.words call) same_at ∙ sym (ap (λ (b : Bool). cond b (page_input c.words call (length c.answers + length (pte_places c call))) None) p.ok) in
+    p.told ∙ ap (page_input c.words call) same_at ∙ sym (ap (λ (b : Bool). cond b (page_input c.words call (length c.answers + length (pte_places c call))) None) p.ok) in
     let log : d.log ≡ (called c call).log =
     p.log ∙ (λ i. c.log ++ events.Entry record { ticket = c.made + 1; core = 0; serial = c.made; call = call; page = page_so i; reply = p.answers_so i; tried = p.objects i } ∷ []) in
     λ i. record { state = state i; made = p.made i; contexts = contexts i; words = words i; answers = answers i; log = log i }

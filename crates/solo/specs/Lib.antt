@@ -2,3 +2,4 @@ pub mod Ptes
 pub mod Solo
 pub mod Kept
 pub mod Given
+pub mod PtesHeld

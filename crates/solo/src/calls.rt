@@ -1,25 +1,24 @@
 //! One monitor call.
 
-ghost use Rattle.std.specs.Prelude.{◌≡◌, ◌≢◌, ◌+◌, ◌*◌, ◌^◌, ◌<◌, ◌≤◌, [], ◌++◌, map, length, None, if◌then◌else◌};
+ghost use Rattle.std.specs.Prelude.{◌≡◌, ◌+◌, ◌^◌, ◌<◌, ◌≤◌, ◌++◌, map, length, true, None, if◌then◌else◌};
 ghost use Rattle.mon_types.specs.Shape.{page_total};
-ghost use Rattle.mon_model.specs.State.{enclave_at, thread_at};
-ghost use Rattle.core_context.specs.Changes.{change_of};
 ghost use Rattle.mon_model.specs.InRange.{IsInRange};
 ghost use Rattle.hist.specs.History.{digest_of};
 ghost use Rattle.dram_map.specs.Addresses.{word_total};
 ghost use Rattle.dram_map.specs.Words.{word_at};
 ghost use Rattle.solo.specs.Ptes.{pte_put};
 ghost use Rattle.mon_types.specs.Budgets.{event_budget, answer_budget, line_events, line_answers};
-ghost use Rattle.solo.specs.Solo.{pte_places, source_words, page_input, stored, leaving_of, called};
+ghost use Rattle.solo.specs.Solo.{source_words, page_input, stored, leaving_of, called};
 
 use crate::answers::Answers;
 use crate::machine::Machine;
 use crate::ptes::{page_number, places_read};
-use core_context::{After, Leaving};
+use core_context::Leaving;
 use dram_map::Memory;
 use hist::{Entry, Event, PageInput};
+use mon_calls::core_change;
 use mon_measure::page_digest;
-use mon_types::{Call, Config, Enclave, Thread};
+use mon_types::{Call, Config};
 use sv39_pte::{leaf_pte, pointer_pte};
 
 /// The digest that a call other than load_page is given.
@@ -38,36 +37,28 @@ fn leaving_of(call: &Call) -> Leaving
     }
 }
 
-/// What a load_page is to read, where the ptes at these places were read, after `given` answers; its
-/// page was refused before where there are none. Other calls read no page.
+/// What a call tells of the page that it reads, the words of which come after so many answers: a load_page
+/// that answers Ok. Other calls read no page, and a refused one none whose digest matters.
 fn input_of(
     config: &Config,
     memory: &Memory,
     call: &Call,
-    places: &[u64],
-    given: usize,
+    done: bool,
+    at: usize,
 ) -> Option<PageInput>
     requires size { length memory.now ≡ word_total config.now }
     requires pages { page_total config.now < 65536 }
-    requires range { places.now ≢ [] → IsInRange config.now call.now }
-    requires few { given + length places.now < 2 ^ 32 }
-    ensures read { places.now ≢ [] → result ≡ page_input memory.now call.now (given + length places.now) }
-    ensures none { places.now ≡ [] → result ≡ None }
+    requires range { done ≡ true → IsInRange config.now call.now }
+    requires few { at < 2 ^ 32 }
+    ensures { result ≡ (if done then page_input memory.now call.now at else None) }
 {
     match *call {
-        Call::LoadPage { src, .. } if !places.is_empty() => Some(PageInput {
+        Call::LoadPage { src, .. } if done => Some(PageInput {
             digest: page_digest(memory.page(page_number(config, src))),
-            at: (given + places.len()) as u32,
+            at: at as u32,
         }),
         _ => None,
     }
-}
-
-/// A page is told of only where the call answered Ok.
-fn only_if(done: bool, input: Option<PageInput>) -> Option<PageInput>
-    ensures { result ≡ (if done then input else None) }
-{
-    if done { input } else { None }
 }
 
 /// The digest of the page that is read, zeros where none is.
@@ -142,73 +133,30 @@ fn store(config: &Config, memory: &mut Memory, call: &Call, places: &[u64])
 }
 
 impl Machine {
-    /// What Ok of the call does to the core.
-    fn change(&self, call: &Call) -> After
-        ensures { result ≡ change_of self.now.state 0 call.now }
-    {
-        match *call {
-            Call::Flush | Call::SetSatp { .. } => After::Cleared,
-            Call::Enter { e, t } => After::entering(&self.enclave(e), &self.thread(t)),
-            Call::Exit | Call::Aex { .. } => After::Left,
-            Call::Restore => {
-                let own = self.monitor.modes()[0].own_thread();
-                After::Restored {
-                    saved: self.thread(u64::from(own)).saved,
-                }
-            }
-            _ => After::Nothing,
-        }
-    }
-
-    /// The record of an enclave slot, an empty one past the last slot.
-    fn enclave(&self, e: u64) -> Enclave
-        ensures { result ≡ enclave_at self.now.state e }
-    {
-        self.monitor
-            .enclaves()
-            .get(e as usize)
-            .copied()
-            .unwrap_or_default()
-    }
-
-    /// The record of a thread slot, an empty one past the last slot.
-    fn thread(&self, t: u64) -> Thread
-        ensures { result ≡ thread_at self.now.state t }
-    {
-        self.monitor
-            .threads()
-            .get(t as usize)
-            .copied()
-            .unwrap_or_default()
-    }
-
     /// Makes a call, and logs it.
     pub fn make(&mut self, call: &Call)
         requires events { length self.old.log + line_events ≤ event_budget }
         requires answers { length self.old.answers + line_answers ≤ answer_budget }
         ensures { self.new ≡ called self.old call.now }
     {
-        let places = places_read(&self.config, &self.memory, &self.monitor, call);
-        let input = input_of(
-            &self.config,
-            &self.memory,
-            call,
-            &places,
-            self.answers.len(),
-        );
-        let change = self.change(call);
-        let tried = self.monitor.tries(0, call);
-        let reply = self.monitor.call(0, call, &digest_in(&input));
-        let done = reply.is_ok();
+        self.monitor.begin(0, call, &mut self.begun);
+        let mode = self.monitor.modes()[0];
+        let places = places_read(&self.config, &self.memory, mode, call, &self.begun);
+        let done = self.begun.reply.is_ok();
+        let at = self.answers.len() + places.len();
+        let input = input_of(&self.config, &self.memory, call, done, at);
+        let change = core_change(call, &self.begun.held);
         self.log.add(Event::Entry(Entry {
             ticket: self.made + 1,
             core: 0,
             serial: self.made,
             call: *call,
-            page: only_if(done, input),
-            reply,
-            tried,
+            page: input,
+            reply: self.begun.reply,
+            tried: self.begun.tried,
         }));
+        self.monitor
+            .finish(0, call, &digest_in(&input), &mut self.begun);
         self.made += 1;
         give_ptes(&mut self.answers, &self.memory, &places);
         if done {

@@ -8,14 +8,14 @@ use crate::answers::Answers;
 use core_context::Contexts;
 use dram_map::Memory;
 use hist::{Finished, Log};
-use mon_seq::Monitor;
+use mon_seq::{Begun, Monitor};
 use mon_types::{Config, EVENT_BUDGET, Items, Start};
 use std::alloc::{AllocError, Global};
 use std::marker::Model;
 
 /// A machine with one core: its monitor, and how many calls were made; the core's pc and registers, and
 /// those of the OS, which are kept while the core is inside an enclave; DRAM; what loads gave the core,
-/// and its log.
+/// and its log; and where calls are begun.
 #[derive(Debug, Drop)]
 pub struct Machine {
     pub config: Config,
@@ -25,6 +25,7 @@ pub struct Machine {
     pub memory: Memory,
     pub answers: Answers,
     pub log: Log,
+    pub begun: Begun,
 }
 
 impl Model for Machine {
@@ -56,6 +57,7 @@ impl Machine {
             memory,
             answers,
             log,
+            begun: Begun::new(),
         })
     }
 

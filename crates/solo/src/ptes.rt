@@ -1,22 +1,22 @@
 //! The page-table entries (ptes) that a call reads.
 
-ghost use Rattle.std.specs.Prelude.{◌≡◌, ◌<◌, ◌≤◌, [], length, if◌then◌else◌};
+ghost use Rattle.std.specs.Prelude.{◌≡◌, ◌<◌, ◌≤◌, [], None, is_some, if◌then◌else◌};
 ghost use Rattle.mon_types.specs.Shape.{page_total};
-ghost use Rattle.mon_model.specs.State.{State, mode_of};
 ghost use Rattle.mon_types.specs.Replies.{is_done};
 ghost use Rattle.mon_model.specs.Early.{early};
 ghost use Rattle.sv39_pte.specs.Tables.{path_below};
 ghost use Rattle.mon_enclaves.specs.ByWords.{table_path};
-ghost use Rattle.mon_model.specs.InRange.{IsInRange};
-ghost use Rattle.solo.specs.Ptes.{path_in, held_places};
-ghost use Rattle.solo.specs.Solo.{unless_early};
+ghost use Rattle.lock_plan.specs.Plan.{first_enclave};
+ghost use Rattle.mon_calls.specs.Replied.{replied};
+ghost use Rattle.solo.specs.Ptes.{path_in};
+ghost use Rattle.solo.specs.PtesHeld.{places_held, ArePlaces};
 
 use arrayvec::ArrayVec;
 use dram_map::Memory;
-use lock_plan::refuse_early;
-use mon_enclaves::{decide_page, decide_reserve, decide_table};
-use mon_seq::Monitor;
-use mon_types::{Call, Config, Enclave, Region, Reply};
+use lock_plan::Held;
+use mon_calls::{decide, enclave_held};
+use mon_seq::Begun;
+use mon_types::{Call, Config, Enclave, Mode, Reply};
 use sv39_pte::{pte_place, table_led_to};
 
 /// How many ptes the path of a page or a reserved page has.
@@ -81,67 +81,62 @@ pub fn page_number(config: &Config, page: u64) -> u16
     page as u16
 }
 
-/// The places of the ptes that a call which was not refused early reads.
-fn held_places(
+/// The places of so many ptes on an address's path from the root of the enclave that is held down, where the
+/// records that are held do not refuse the call.
+fn path_held(
     config: &Config,
     memory: &Memory,
-    enclaves: &[Enclave],
-    regions: &[Region],
+    mode: Mode,
     call: &Call,
+    held: &Held,
+    va: u64,
+    count: u8,
 ) -> ArrayVec<u64, 3>
-    requires enclaves { length enclaves.now ≡ 8 }
-    requires regions { length regions.now ≡ config.now.regions }
-    requires range { IsInRange config.now call.now }
-    ensures { (s : State) → s.shape ≡ config.now → s.enclaves ≡ enclaves.now → s.regions ≡ regions.now → result.items ≡ held_places s memory.now call.now }
+    requires early { early config.now mode call.now ≡ None }
+    requires count { count ≤ 3 }
+    ensures { result.items ≡ (if is_done (replied config.now mode call.now held.now []) then path_in config.now memory.now (first_enclave held.now) va count else []) }
+{
+    let reply = decide(config, 0, mode, call, held, &[]);
+    path_unless_refused(&reply, config, memory, &enclave_held(held), va, count)
+}
+
+/// The places of the ptes that a call which was not refused early reads.
+fn places_held(
+    config: &Config,
+    memory: &Memory,
+    mode: Mode,
+    call: &Call,
+    held: &Held,
+) -> ArrayVec<u64, 3>
+    requires { early config.now mode call.now ≡ None }
+    ensures { result.items ≡ places_held config.now mode memory.now call.now held.now }
 {
     match *call {
-        Call::LoadTable { e, va, level, page } => {
-            let enclave = &enclaves[e as usize];
-            let reply = decide_table(
-                config,
-                enclave,
-                va,
-                level as u8,
-                page_number(config, page),
-                &[],
-            );
-            path_unless_refused(&reply, config, memory, enclave, va, path_of_table(level))
+        Call::LoadTable { va, level, .. } => {
+            path_held(config, memory, mode, call, held, va, path_of_table(level))
         }
-        Call::LoadPage {
-            e,
-            va,
-            page,
-            src,
-            ..
-        } => {
-            let enclave = &enclaves[e as usize];
-            let source = &regions[usize::from(config.region_of(page_number(config, src)))];
-            let reply = decide_page(config, enclave, va, page_number(config, page), source, &[]);
-            path_unless_refused(&reply, config, memory, enclave, va, LEAF_PATH)
-        }
-        Call::Reserve { e, va, page, .. } => {
-            let enclave = &enclaves[e as usize];
-            let reply = decide_reserve(config, enclave, va, page_number(config, page), &[]);
-            path_unless_refused(&reply, config, memory, enclave, va, LEAF_PATH)
+        Call::LoadPage { va, .. } | Call::Reserve { va, .. } => {
+            path_held(config, memory, mode, call, held, va, LEAF_PATH)
         }
         _ => ArrayVec::new(),
     }
 }
 
-/// The places of the ptes that a call of core 0 reads: none where it is refused early.
+/// The places of the ptes that a call of core 0 in this mode reads, which was begun: none where it is refused
+/// early.
 pub fn places_read(
     config: &Config,
     memory: &Memory,
-    monitor: &Monitor,
+    mode: Mode,
     call: &Call,
+    begun: &Begun,
 ) -> ArrayVec<u64, 3>
-    requires machine { monitor.now.state.shape ≡ config.now }
-    ensures { result.items ≡ unless_early (early config.now (mode_of monitor.now.state 0) call.now) (held_places monitor.now.state memory.now call.now) }
+    requires { begun.now.is_early ≡ is_some (early config.now mode call.now) }
+    ensures { ArePlaces config.now mode memory.now call.now begun.now result.items }
 {
-    let cores = config.cores();
-    prove!(0 < cores);
-    match refuse_early(config, monitor.modes()[0], call) {
-        Some(_) => ArrayVec::new(),
-        None => held_places(config, memory, monitor.enclaves(), monitor.regions(), call),
+    if begun.is_early {
+        ArrayVec::new()
+    } else {
+        places_held(config, memory, mode, call, &begun.held)
     }
 }
