@@ -7,6 +7,7 @@
 
 mod address;
 mod lane;
+mod laws;
 mod memory;
 #[cfg(test)]
 mod tests;
@@ -16,4 +17,5 @@ pub use address::{
     page_start, word_of, word_start,
 };
 pub use lane::{put, take};
+pub use laws::stores_by_word;
 pub use memory::Memory;
