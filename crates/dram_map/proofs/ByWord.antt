@@ -1,11 +1,10 @@
 -- What stores in DRAM make of each word.
-use Rattle.std.proofs.Common.{◌≡◌, ◌⊎◌, inl, inr, ℕ, zero, suc, ◌+◌, ◌-◌, ◌*◌, ◌/◌, ◌%◌, ◌<◌, ◌≤◌, Bool, true, false, cond, ◌&&◌, nat_eq, nat_lt, List, ◌++◌, length, take, drop, get_or, replicate, refl, sym, ap, ◌∙◌, append_assoc, arith}
+use Rattle.std.proofs.Common.{◌≡◌, inl, inr, ℕ, zero, suc, ◌+◌, ◌-◌, ◌*◌, ◌%◌, ◌<◌, ◌≤◌, Bool, true, false, cond, ◌&&◌, nat_eq, nat_lt, List, ◌++◌, length, take, drop, get_or, refl, sym, ap, ◌∙◌, append_assoc, arith}
 use Rattle.std.proofs.lemmas.Bool.{cases_lt, cases_eq, eq-eqb, ne_eqb, lt-ltb, le-ltb}
-use Rattle.std.proofs.lemmas.List.{get_or_append_left, get_or-append_right, get_or-take, get_or-drop, get_or-replicate, get_or-set_same, get_or-set_other, length-append, length-take-le, length-drop, length-replicate}
-use Rattle.std.proofs.lemmas.List.Edits.{paste_all}
+use Rattle.std.proofs.lemmas.List.{get_or_append_left, get_or-append_right, get_or-take, get_or-drop, get_or-replicate, get_or-set_same, get_or-set_other, length-append, length-take-le, length-drop}
 use Rattle.mon_types.specs.Shape.{Shape, page_total, region_of_page}
-use Rattle.dram_map.specs.Addresses.{page_words, first_word, word_total, page_of_word, region_of_word}
-use Rattle.dram_map.specs.Words.{word_at, word_put, zero_page, words_of_page, page_copied, page_cleared, pages_cleared, region_cleared}
+use Rattle.dram_map.specs.Addresses.{page_words, first_word, page_of_word, region_of_word}
+use Rattle.dram_map.specs.Words.{zero_page, words_of_page, page_cleared, pages_cleared}
 use Rattle.dram_map.specs.ByWord.{PutByWord, CopiedByWord, ClearedByWord, RegionClearedByWord}
 
 -- ---- a list whose k items from place a on were exchanged
