@@ -7,7 +7,10 @@ use mon_types::{Enclave, Start, TICK_CAUSE, Thread};
 fn a_tick_gives_the_os_its_registers_back(rt: HostRuntime) {
     let start = Start { pc: 64, sp: 128 };
     let mut contexts = Contexts::begin(3, &start);
-    assert_eq!(rt; (contexts.current.regs[2], contexts.current.regs[10]), (128, 3));
+    assert_eq!(rt;
+        (contexts.current.regs[2], contexts.current.regs[10]),
+        (128, 3)
+    );
     contexts.current.set(9, 77);
     let mut thread = Thread::empty();
     thread.entry = 4096;

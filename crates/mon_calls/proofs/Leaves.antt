@@ -26,7 +26,8 @@ use Rattle.mon_types.specs.declared.object.ObjectId.{ObjectId}
 use Rattle.mon_types.specs.declared.object.ObjectId.TheVariants as objects
 use Rattle.mon_model.specs.State.{State, IsWhole, region_at, enclave_at, thread_at, flushed_at, mode_of, with_region, with_enclave, with_thread, with_flushed, with_slot}
 use Rattle.mon_model.specs.Early.{early}
-use Rattle.mon_model.specs.InRange.{IsInRange, not_refused}
+use Rattle.mon_model.specs.InRange.{IsInRange}
+use Rattle.mon_model.proofs.InRange.{not_refused}
 use Rattle.mon_model.specs.RegionCalls.{loses_region, gains_region, blocked, assigned, with_assigned}
 use Rattle.mon_model.specs.EnclaveCalls.{created, with_table, with_page, with_reserved, initialized, deleted}
 use Rattle.mon_model.specs.ThreadCalls.{ready, with_thread_loaded, without_thread, running, left, left_saving, restored}

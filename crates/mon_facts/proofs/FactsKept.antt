@@ -41,7 +41,8 @@ use Rattle.mon_model.specs.Step.{held_reply, without_own_region, with_item, with
 use Rattle.mon_model.specs.Deleted.{deleted_in}
 use Rattle.mon_facts.specs.Facts.{is_owned_by, is_thread_of, is_reserved, FactsHold}
 use Rattle.mon_facts.specs.Tables.{NamesSlots, AreTables}
-use Rattle.mon_model.specs.InRange.{IsInRange, in_range}
+use Rattle.mon_model.specs.InRange.{IsInRange}
+use Rattle.mon_model.proofs.InRange.{in_range}
 use Rattle.mon_model.proofs.Carried.{carried}
 use Rattle.mon_model.proofs.Bits.{none-has, with-keeps}
 use Rattle.mon_model.proofs.Deleting.{deleted_slot}
@@ -196,13 +197,13 @@ block_kept (modes.Inside i j) s core r k is n t q d h =
       rootless = rootless-enclave s.enclaves s.loaded i x p filled.rootless h.rootless;
     }
 
-free-unowned : (e : ℕ) (x : Region) (flushed : List ℕ) → is_done (free_reply x flushed) ≡ true → is_owned_by e x ≡ false
+pub free-unowned : (e : ℕ) (x : Region) (flushed : List ℕ) → is_done (free_reply x flushed) ≡ true → is_owned_by e x ≡ false
 free-unowned e regions.Free flushed d = refl
 free-unowned e (regions.Owned owner since) flushed d = absurd (true≢false (sym d))
 free-unowned e (regions.Blocked owner since at) flushed d = refl
 free-unowned e (regions.Offered to at) flushed d = refl
 
-is_free-unowned : (e : ℕ) (x : Region) → is_free x ≡ true → is_owned_by e x ≡ false
+pub is_free-unowned : (e : ℕ) (x : Region) → is_free x ≡ true → is_owned_by e x ≡ false
 is_free-unowned e regions.Free f = refl
 is_free-unowned e (regions.Owned owner since) f = absurd (true≢false (sym f))
 is_free-unowned e (regions.Blocked owner since at) f = refl

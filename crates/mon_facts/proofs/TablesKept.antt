@@ -29,7 +29,8 @@ use Rattle.mon_model.specs.EnclaveCalls.{init_reply, is_os_owned, leaf_fits, loa
 use Rattle.mon_types.specs.Modes.{own_slot}
 use Rattle.mon_model.specs.Step.{held_reply, effect, reply_of, after, with_item, with_deleted, regions_of, without_own_region}
 use Rattle.mon_facts.specs.Tables.{NamesSlots, IsRooted, IsSlot, AreTables}
-use Rattle.mon_model.specs.InRange.{IsInRange, in_range}
+use Rattle.mon_model.specs.InRange.{IsInRange}
+use Rattle.mon_model.proofs.InRange.{in_range}
 use Rattle.mon_model.proofs.Carried.{carried}
 use Rattle.mon_model.proofs.Whole.{region_whole, enclave_whole, slot_whole, thread_whole, cell_whole, mode_whole, starts}
 

@@ -13,7 +13,7 @@ use Rattle.mon_model.specs.State.{State, region_at, flushed_at, mode_of, with_re
 use Rattle.mon_types.specs.Replies.{is_done}
 use Rattle.mon_types.specs.Owns.{os_word}
 use Rattle.mon_model.specs.Early.{is_unsupported, is_wrong_mode, is_bad_value, early}
-use Rattle.mon_model.specs.InRange.{in_range}
+use Rattle.mon_model.proofs.InRange.{in_range}
 use Rattle.mon_model.specs.EnclaveCalls.{deleted}
 use Rattle.mon_model.specs.Step.{without_own_region, with_deleted, regions_of, held_reply, effect, or_else, reply_of}
 use Rattle.mon_model.specs.OnCore.{mode_by, cell_by}

@@ -1,3 +1,4 @@
+pub mod InRange
 pub mod Members
 pub mod Bits
 pub mod Deleting

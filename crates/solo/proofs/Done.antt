@@ -5,7 +5,8 @@ use Rattle.mon_types.specs.declared.call.Call.{Call}
 use Rattle.mon_types.specs.declared.call.Call.TheVariants as calls
 use Rattle.mon_model.specs.State.{State}
 use Rattle.mon_model.specs.Step.{reply_of}
-use Rattle.mon_model.specs.InRange.{IsInRange, in_range}
+use Rattle.mon_model.specs.InRange.{IsInRange}
+use Rattle.mon_model.proofs.InRange.{in_range}
 use Rattle.mon_model.proofs.Carried.{Carried, carried}
 use Rattle.hist.specs.History.{digest_of}
 use Rattle.solo.specs.Solo.{page_input, digest_for}

@@ -1,4 +1,4 @@
-use Rattle.mon_model.specs.InRange.{not_refused}
+use Rattle.mon_model.proofs.InRange.{not_refused}
 use Rattle.mon_seq.proofs.board.Board.begin_held.Goals as goal
 
 pub ptes_of-ptes-requires-clause-arguments : goal.ptes_of-ptes-requires-clause-arguments

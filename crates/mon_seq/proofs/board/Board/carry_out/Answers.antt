@@ -1,7 +1,8 @@
 use Rattle.std.proofs.Common.{◌≡◌, sym, ap, ◌∙◌, subst, slice_set}
 use Rattle.mon_types.specs.Shape.{Shape}
 use Rattle.mon_model.specs.State.{State, mode_of}
-use Rattle.mon_model.specs.InRange.{IsInRange, in_range}
+use Rattle.mon_model.specs.InRange.{IsInRange}
+use Rattle.mon_model.proofs.InRange.{in_range}
 use Rattle.mon_model.specs.OnCore.{mode_by}
 use Rattle.mon_model.specs.Step.{after}
 use Rattle.mon_model.specs.Tries.{tries}
