@@ -33,14 +33,18 @@ table_led_to shape pte = page_of_frame shape (ppn_of pte)
 
 -- ---- the path of an address
 
--- The places of so many ptes on an address's path in DRAM, from the table of this level on this page down. A
--- pte that leads to no table is the last.
-abbrev pub path_from : Shape → List ℕ → ℕ → ℕ → ℕ → ℕ → List ℕ
-path_from shape words va level zero page = []
-path_from shape words va level (suc count) page =
-    let pte = word_at words (pte_place page level va) in
+-- The places of so many ptes on an address's path, from the table of this level on this page down, where the words
+-- stand that are given by their places. A pte that leads to no table is the last.
+abbrev pub path_by : Shape → (ℕ → ℕ) → ℕ → ℕ → ℕ → ℕ → List ℕ
+path_by shape word va level zero page = []
+path_by shape word va level (suc count) page =
+    let pte = word (pte_place page level va) in
     pte_place page level va
-    ∷ (if leads_to_table shape pte then path_from shape words va (level - 1) count (page_led_to pte) else [])
+    ∷ (if leads_to_table shape pte then path_by shape word va (level - 1) count (page_led_to pte) else [])
+
+-- the same in DRAM
+abbrev pub path_from : Shape → List ℕ → ℕ → ℕ → ℕ → ℕ → List ℕ
+path_from shape words va level count page = path_by shape (word_at words) va level count page
 
 -- the same from a root down, whose level is 2
 abbrev pub path_below : Shape → List ℕ → ℕ → ℕ → ℕ → List ℕ
