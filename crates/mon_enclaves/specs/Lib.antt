@@ -1,3 +1,4 @@
 pub mod ByWords
 pub mod FromItems
 pub mod Named
+pub mod LoadReply
