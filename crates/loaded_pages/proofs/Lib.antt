@@ -1,0 +1,10 @@
+pub mod Cases
+pub mod Tables
+pub mod Changes
+pub mod Idle
+pub mod Later
+pub mod Stay
+pub mod Loads
+pub mod Words
+pub mod Histories
+pub mod Pages
