@@ -150,7 +150,7 @@ legal_prints shape logs legal = entries_printable (start shape) (history logs) l
 
 -- ---- one core
 
-own_core : (core serial before : ℕ) (es : List Entry) → AreOwn core serial before es → AllByRecursion (λ e. e.core ≡ core) es
+pub own_core : (core serial before : ℕ) (es : List Entry) → AreOwn core serial before es → AllByRecursion (λ e. e.core ≡ core) es
 own_core core serial before [] own = tt
 own_core core serial before (e ∷ es) own = (own.0.core, own_core core (serial + 1) e.ticket es own.1)
 

@@ -5,6 +5,7 @@ pub mod Walked
 pub mod Ascending
 pub mod Periods
 pub mod Lawful
+pub mod Parts
 pub mod Measured
 pub mod Growing
 pub mod Touching

@@ -1,18 +1,18 @@
 -- Laws of histories. This project's own.
-use Rattle.std.specs.Prelude.{◌≡◌, ◌≤◌, ℕ, false, List, length, map, take}
+use Rattle.std.specs.Prelude.{◌≡◌, ◌<◌, ◌≤◌, ℕ, false, List, length, map, take}
 use Rattle.std.specs.List.{AllByRecursion}
 use Rattle.mon_types.specs.Shape.{Shape}
 use Rattle.mon_types.specs.Replies.{is_concurrent}
 use Rattle.mon_model.specs.Measured.{IsMeasured}
 use Rattle.hist.specs.declared.event.Event.{Event}
 use Rattle.hist.specs.declared.event.Event.TheVariants as events
-use Rattle.hist.specs.History.{history, state_after, last_state}
+use Rattle.hist.specs.History.{entries_of, log_of, history, state_after, last_state}
 use Rattle.hist.specs.Legal.{AreOwnLogs, Legal}
 use Rattle.hist.specs.Merging.{CanMerge}
 use Rattle.hist.specs.Printing.{ArePrintable}
 use Rattle.hist.specs.Touched.{is_touched}
 use Rattle.hist.specs.SafeLog.{ClearedSince}
-use Rattle.hist.specs.Busy.{UnderWay, Busy}
+use Rattle.hist.specs.Busy.{own, UnderWay, Busy}
 use Rattle.hist.specs.Measured.{answered}
 
 -- legal logs of a machine of at most 16 cores can be merged
@@ -22,6 +22,11 @@ LegalLogsMerge = (shape : Shape) (logs : List (List Event)) → shape.cores ≤ 
 -- and each entry of legal logs can be printed
 abbrev pub LegalLogsPrint : Type 0
 LegalLogsPrint = (shape : Shape) (logs : List (List Event)) → Legal shape logs → ArePrintable logs
+
+-- a core's entries in the history of legal logs are those of its log
+abbrev pub EachLogIsItsPart : Type 0
+EachLogIsItsPart = (shape : Shape) (logs : List (List Event)) → Legal shape logs
+    → (core : ℕ) → core < length logs → own core (history logs) ≡ entries_of (log_of logs core)
 
 -- a period that is not touched is one of which each touch has a clearing entry behind it, and the other way round
 abbrev pub UntouchedIsCleared : Type 0

@@ -4,7 +4,7 @@ ghost use Rattle.hist.specs.Logged.{events_of};
 ghost use Rattle.hist.specs.Legal.{Legal};
 ghost use Rattle.hist.specs.Merging.{CanMerge};
 ghost use Rattle.hist.specs.Printing.{ArePrintable};
-ghost use Rattle.hist.specs.Laws.{LegalLogsMerge, LegalLogsPrint, UntouchedIsCleared, ClearedIsUntouched, NeverBusyAlone, MeasuredByHistory, MeasuredAtLast};
+ghost use Rattle.hist.specs.Laws.{LegalLogsMerge, LegalLogsPrint, EachLogIsItsPart, UntouchedIsCleared, ClearedIsUntouched, NeverBusyAlone, MeasuredByHistory, MeasuredAtLast};
 
 use crate::finished::Finished;
 
@@ -24,6 +24,11 @@ pub fn legal_run_is_reported(finished: &Finished)
     legal_logs_are_reported();
     let _few = finished.config.cores();
 }
+
+/// Where logs are legal, the entries of the history that a core made are those of its log, in their order.
+pub fn each_log_is_its_part()
+    ensures { EachLogIsItsPart }
+{}
 
 /// The walk over a log that tells which periods its core has touched since its last clearing entry tells the same
 /// as looking back from a touch to each earlier one.

@@ -16,8 +16,8 @@ mod tests;
 pub use event::{Entry, Event, PageInput, Why};
 pub use finished::Finished;
 pub use laws::{
-    legal_logs_are_reported, legal_run_is_reported, measured_by_history, never_busy_alone,
-    touches_by_walk,
+    each_log_is_its_part, legal_logs_are_reported, legal_run_is_reported, measured_by_history,
+    never_busy_alone, touches_by_walk,
 };
 pub use log::Log;
 pub use merge::Merge;
