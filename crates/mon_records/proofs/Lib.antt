@@ -1,0 +1,8 @@
+pub mod Members
+pub mod OkCalls
+pub mod Items
+pub mod Readable
+pub mod RebuiltStates
+pub mod RangesKept
+pub mod Early
+pub mod Answered

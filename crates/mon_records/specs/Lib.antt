@@ -1,0 +1,11 @@
+pub mod Rows
+pub mod Rebuilt
+pub mod Changed
+pub mod EarlyWords
+pub mod Answers
+pub mod Ranges
+pub mod RebuiltLaws
+pub mod ItemLaws
+pub mod RangeLaws
+pub mod EarlyLaws
+pub mod AnswerLaws
