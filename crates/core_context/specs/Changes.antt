@@ -15,7 +15,7 @@ use Rattle.core_context.specs.declared.context.Context.{Context}
 use Rattle.core_context.specs.declared.contexts.Contexts.{Contexts}
 use Rattle.core_context.specs.declared.contexts.Leaving.{Leaving}
 use Rattle.core_context.specs.declared.contexts.Leaving.TheVariants as leavings
-use Rattle.core_context.specs.Registers.{begun, entered, returned, restored}
+use Rattle.core_context.specs.Registers.{begun, entered, returned, restored_context}
 
 -- Ok of enter, for the records of the enclave and the thread; the root is 0 where there is none, which never comes
 abbrev pub entering : Enclave → Thread → After
@@ -23,18 +23,18 @@ entering enclave thread =
     afters.Entered thread.entry thread.sp enclave.base enclave.size (unwrap_or enclave.root 0) (not (thread.saved_at == 0))
 
 -- what Ok of the call does to its core
-abbrev pub change_of : State → ℕ → Call → After
-change_of s core calls.Flush = afters.Cleared
-change_of s core (calls.SetSatp v) = afters.Cleared
-change_of s core (calls.Enter e t) = entering (enclave_at s e) (thread_at s t)
-change_of s core calls.Exit = afters.Left
-change_of s core (calls.Aex saved) = afters.Left
-change_of s core calls.Restore = afters.Restored (thread_at s (own_thread (mode_of s core))).saved
-change_of s core _ = afters.Nothing
+abbrev pub ok_change : State → ℕ → Call → After
+ok_change s core calls.Flush = afters.Cleared
+ok_change s core (calls.SetSatp v) = afters.Cleared
+ok_change s core (calls.Enter e t) = entering (enclave_at s e) (thread_at s t)
+ok_change s core calls.Exit = afters.Left
+ok_change s core (calls.Aex saved) = afters.Left
+ok_change s core calls.Restore = afters.Restored (thread_at s (own_thread (mode_of s core))).saved
+ok_change s core _ = afters.Nothing
 
 -- what the call does to its core: a refusal nothing
-abbrev pub after_call : State → ℕ → Call → After
-after_call s core call = if is_done (reply_of s core call) then change_of s core call else afters.Nothing
+abbrev pub change_after : State → ℕ → Call → After
+change_after s core call = if is_done (reply_of s core call) then ok_change s core call else afters.Nothing
 
 -- ---- the contexts of a core
 
@@ -43,16 +43,16 @@ abbrev pub begun_contexts : ℕ → Start → Contexts
 begun_contexts core start = record { current = begun core start; os = begun core start }
 
 -- the OS's pc and registers, where an enclave is left so
-abbrev pub left_by : Leaving → Context → Context
-left_by leavings.Exit os = returned os 0 0 0
-left_by (leavings.Aex cause value) os = returned os 1 cause value
+abbrev pub os_given_back : Leaving → Context → Context
+os_given_back leavings.Exit os = returned os 0 0 0
+os_given_back (leavings.Aex cause value) os = returned os 1 cause value
 
 -- The contexts after a call: enter keeps the OS's and begins the thread, exit and aex give the OS's back, restore
 -- takes what was saved, and no other call changes any.
-abbrev pub changed : Contexts → After → Leaving → Contexts
-changed c afters.Nothing leaving = c
-changed c afters.Cleared leaving = c
-changed c (afters.Entered entry sp base size root saved) leaving =
+abbrev pub contexts_after : Contexts → After → Leaving → Contexts
+contexts_after c afters.Nothing leaving = c
+contexts_after c afters.Cleared leaving = c
+contexts_after c (afters.Entered entry sp base size root saved) leaving =
     record { current = entered entry sp saved; os = c.current }
-changed c afters.Left leaving = record c { current = left_by leaving c.os }
-changed c (afters.Restored saved) leaving = record c { current = restored saved }
+contexts_after c afters.Left leaving = record c { current = os_given_back leaving c.os }
+contexts_after c (afters.Restored saved) leaving = record c { current = restored_context saved }

@@ -27,9 +27,9 @@ abbrev pub with_register : Context → ℕ → ℕ → Context
 with_register context x value = record context { regs = slice_set context.regs x value }
 
 -- the words that an aex saves: pc, x1 to x31, cause
-abbrev pub saved_words : Context → ℕ → List ℕ
-saved_words context cause = context.pc ∷ drop 1 context.regs ++ cause ∷ []
+abbrev pub saved_context : Context → ℕ → List ℕ
+saved_context context cause = context.pc ∷ drop 1 context.regs ++ cause ∷ []
 
 -- pc and x1 to x31 as they were saved
-abbrev pub restored : List ℕ → Context
-restored saved = record { pc = slice_index saved 0; regs = 0 ∷ take 31 (drop 1 saved) }
+abbrev pub restored_context : List ℕ → Context
+restored_context saved = record { pc = slice_index saved 0; regs = 0 ∷ take 31 (drop 1 saved) }

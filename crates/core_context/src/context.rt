@@ -1,7 +1,7 @@
 //! The pc and the registers of a core.
 
 ghost use Rattle.std.specs.Prelude.{◌≡◌};
-ghost use Rattle.core_context.specs.Registers.{begun, entered, returned, with_register, saved_words, restored};
+ghost use Rattle.core_context.specs.Registers.{begun, entered, returned, with_register, saved_context, restored_context};
 
 use mon_types::Start;
 
@@ -58,7 +58,7 @@ impl Context {
 
     /// The words that an aex saves: the pc, x1 to x31 and the cause.
     pub fn save(&self, cause: u64) -> [u64; 33]
-        ensures { result ≡ saved_words self.now cause }
+        ensures { result ≡ saved_context self.now cause }
     {
         let mut saved = [cause; 33];
         saved[..32].copy_from_slice(&self.regs);
@@ -68,7 +68,7 @@ impl Context {
 
     /// The pc and x1 to x31 as they were saved.
     pub fn restore(saved: &[u64; 33]) -> Context
-        ensures { result ≡ restored saved.now }
+        ensures { result ≡ restored_context saved.now }
     {
         let mut regs = [0; 32];
         regs.copy_from_slice(&saved[..32]);

@@ -1,7 +1,7 @@
 //! The two contexts of a core.
 
 ghost use Rattle.std.specs.Prelude.{◌≡◌};
-ghost use Rattle.core_context.specs.Changes.{begun_contexts, left_by, changed};
+ghost use Rattle.core_context.specs.Changes.{begun_contexts, os_given_back, contexts_after};
 
 use crate::after::After;
 use crate::context::Context;
@@ -35,7 +35,7 @@ impl Contexts {
 
     /// The OS's pc and registers, as they are given back to it.
     fn left(&self, leaving: Leaving) -> Context
-        ensures { result ≡ left_by leaving self.now.os }
+        ensures { result ≡ os_given_back leaving self.now.os }
     {
         match leaving {
             Leaving::Exit => self.os.give_back(0, 0, 0),
@@ -45,7 +45,7 @@ impl Contexts {
 
     /// Takes in what a monitor call does to its core. `leaving` is how it leaves an enclave, if it leaves one.
     pub fn change(&mut self, after: &After, leaving: Leaving)
-        ensures { self.new ≡ changed self.old after.now leaving }
+        ensures { self.new ≡ contexts_after self.old after.now leaving }
     {
         match *after {
             After::Nothing | After::Cleared => {}

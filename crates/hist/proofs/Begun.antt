@@ -8,7 +8,7 @@ use Rattle.hist.specs.declared.event.Entry.{Entry}
 use Rattle.hist.specs.declared.event.Event.{Event}
 use Rattle.hist.specs.Logged.{Logged, events_of}
 use Rattle.hist.specs.History.{entries_of, in_ticket_order, history}
-use Rattle.hist.specs.Merging.{Ascend, ShareNoTicket, AreApart, AreLeft, entries_left, left_by_ticket, BeginsWithEntry}
+use Rattle.hist.specs.Merging.{Ascend, ShareNoTicket, AreApart, AreStillLeft, entries_left, left_by_ticket, BeginsWithEntry}
 
 -- what is left of the logs, in their order, and nothing behind them
 abbrev pub Holds : List (Bor (List Event)) → List Logged → Type 0
@@ -88,5 +88,5 @@ begin_held [] logs holds = tt
 begin_held (rest ∷ rests) [] holds = (holds.1, begin_held rests [] holds.2)
 begin_held (rest ∷ rests) (log ∷ logs) holds = (holds.1, begin_held rests logs holds.2)
 
-pub are_left : (rests : List (Bor (List Event))) (logs : List Logged) → Holds rests logs → AreApart (map entries_of (events_of logs)) → AreLeft rests
+pub are_left : (rests : List (Bor (List Event))) (logs : List Logged) → Holds rests logs → AreApart (map entries_of (events_of logs)) → AreStillLeft rests
 are_left rests logs holds apart = record { apart = apart_held rests logs holds (subst AreApart (runs_of logs) apart); begin = begin_held rests logs holds }

@@ -6,7 +6,7 @@ use Rattle.mon_types.specs.declared.object.ObjectId.TheVariants as objects
 use Rattle.mon_types.specs.declared.object.Tried.{Tried}
 use Rattle.mon_model.specs.Tries.{tried_set}
 use Rattle.hist.specs.Busy.{TriedUpTo}
-use Rattle.hist.specs.Rows.{r3}
+use Rattle.mon_model.specs.Examples.{r3}
 
 -- ---- each core of one or two
 

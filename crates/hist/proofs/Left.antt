@@ -8,7 +8,7 @@ use Rattle.hist.specs.declared.event.Entry.{Entry}
 use Rattle.hist.specs.declared.event.Event.{Event}
 use Rattle.hist.specs.declared.merge.First.{First}
 use Rattle.hist.specs.History.{entries_of, in_ticket_order}
-use Rattle.hist.specs.Merging.{AreApart, AreLeft, entries_left, left_by_ticket, BeginsWithEntry, BeginsEarliest}
+use Rattle.hist.specs.Merging.{AreApart, AreStillLeft, entries_left, left_by_ticket, BeginsWithEntry, BeginsEarliest}
 use Rattle.hist.proofs.Ordered.{joined, joined_map, earliest_first, apart_after, all_set}
 
 -- the lists of entries, where one log goes on behind its first
@@ -17,7 +17,7 @@ lists_after : (rests : List (Bor (List Event))) (first : First) (rest : Bor (Lis
 lists_after rests first rest same =
     ap (λ (es : List Entry). set (map entries_left rests) first.at es) (sym same) ∙ sym (map-set entries_left rests first.at rest)
 
-pub takes_first : (rests : List (Bor (List Event))) (first : First) (rest : Bor (List Event)) → AreLeft rests → BeginsEarliest (map entries_left rests) first → entries_of rest.now ≡ entries_of first.after.now
+pub takes_first : (rests : List (Bor (List Event))) (first : First) (rest : Bor (List Event)) → AreStillLeft rests → BeginsEarliest (map entries_left rests) first → entries_of rest.now ≡ entries_of first.after.now
     → left_by_ticket rests ≡ first.entry.now ∷ left_by_ticket (set rests first.at rest)
 takes_first rests first rest left earliest same =
     ap in_ticket_order (joined_map entries_left rests)
@@ -25,8 +25,8 @@ takes_first rests first rest left earliest same =
     ∙ ap (λ (lists : List (List Entry)). first.entry.now ∷ in_ticket_order (joined lists)) (lists_after rests first rest same)
     ∙ ap (λ (es : List Entry). first.entry.now ∷ in_ticket_order es) (sym (joined_map entries_left (set rests first.at rest)))
 
-pub left_after : (rests : List (Bor (List Event))) (first : First) (rest : Bor (List Event)) → AreLeft rests → BeginsEarliest (map entries_left rests) first → entries_of rest.now ≡ entries_of first.after.now
-    → BeginsWithEntry rest.now → AreLeft (set rests first.at rest)
+pub left_after : (rests : List (Bor (List Event))) (first : First) (rest : Bor (List Event)) → AreStillLeft rests → BeginsEarliest (map entries_left rests) first → entries_of rest.now ≡ entries_of first.after.now
+    → BeginsWithEntry rest.now → AreStillLeft (set rests first.at rest)
 left_after rests first rest left earliest same begins = record {
   apart = subst AreApart (lists_after rests first rest same) (apart_after (map entries_left rests) first.at first.entry.now (entries_of first.after.now) left.apart earliest.among earliest.begins);
   begin = all_set (λ (r : Bor (List Event)). BeginsWithEntry r.now) rests first.at rest begins left.begin;

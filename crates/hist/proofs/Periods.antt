@@ -10,7 +10,7 @@ use Rattle.mon_types.specs.declared.region.Owner.{Owner}
 use Rattle.mon_types.specs.declared.region.Owner.TheVariants as owners
 use Rattle.hist.specs.declared.event.Entry.{Entry}
 use Rattle.hist.specs.declared.period.Period.{Period}
-use Rattle.hist.specs.Period.{is_end, is_free, ticket_after, period_with, period_in, entry_at, entries_below, owner_by, owner_of_period, is_initialized}
+use Rattle.hist.specs.Period.{is_end, is_freeing, ticket_after, period_with, period_in, entry_at, entries_below, owner_by, owner_of_period, was_initialized}
 use Rattle.hist.specs.Walk.{go_on, known_after, begun_period}
 use Rattle.hist.proofs.Ordered.{all_weaker, all_joined}
 
@@ -47,13 +47,13 @@ with_ends r a owner b z = record { region = r; owner = owner; since = a; blocked
 
 -- z, where b is known
 abbrev freed_in : List Entry → ℕ → Option ℕ → Option ℕ
-freed_in h r b = option_and_then (λ at. ticket_after h at (is_free r)) b
+freed_in h r b = option_and_then (λ at. ticket_after h at (is_freeing r)) b
 
 goes_free : (r a : ℕ) (owner : Owner) (e : Entry) (at : ℕ) (z : Option ℕ)
-    → go_on (with_ends r a owner (Some at) z) e (Some at) z ≡ with_ends r a owner (Some at) (or_this z (nat_lt at e.ticket && is_free r e) e.ticket)
+    → go_on (with_ends r a owner (Some at) z) e (Some at) z ≡ with_ends r a owner (Some at) (or_this z (nat_lt at e.ticket && is_freeing r e) e.ticket)
 goes_free r a owner e at (Some z) = refl
 goes_free r a owner e at None =
-    elim (nat_lt at e.ticket && is_free r e) as (λ c. (if c then with_ends r a owner (Some at) (Some e.ticket) else with_ends r a owner (Some at) None) ≡ with_ends r a owner (Some at) (if c then Some e.ticket else None)) [
+    elim (nat_lt at e.ticket && is_freeing r e) as (λ c. (if c then with_ends r a owner (Some at) (Some e.ticket) else with_ends r a owner (Some at) None) ≡ with_ends r a owner (Some at) (if c then Some e.ticket else None)) [
       | true ↦ refl
       | false ↦ refl
     ]
@@ -62,9 +62,9 @@ goes_on : (gone : List Entry) (e : Entry) (r a : ℕ) (owner : Owner) → AreBel
     → go_on (with_ends r a owner b (freed_in gone r b)) e b (freed_in gone r b)
     ≡ with_ends r a owner (or_this b (nat_lt a e.ticket && is_end r e) e.ticket) (freed_in (gone ++ e ∷ []) r (or_this b (nat_lt a e.ticket && is_end r e) e.ticket))
 goes_on gone e r a owner below (Some at) =
-    goes_free r a owner e at (ticket_after gone at (is_free r)) ∙ ap (with_ends r a owner (Some at)) (sym (ticket_after_more gone e at (is_free r)))
+    goes_free r a owner e at (ticket_after gone at (is_freeing r)) ∙ ap (with_ends r a owner (Some at)) (sym (ticket_after_more gone e at (is_freeing r)))
 goes_on gone e r a owner below None =
-    let none : ticket_after (gone ++ e ∷ []) e.ticket (is_free r) ≡ None = none_after (gone ++ e ∷ []) e.ticket (is_free r) (all_joined (λ x. x.ticket ≤ e.ticket) gone (e ∷ []) (all_weaker (λ x. x.ticket < e.ticket) (λ x. x.ticket ≤ e.ticket) (λ x lt. omega arith) gone below) (le_refl e.ticket, tt)) in
+    let none : ticket_after (gone ++ e ∷ []) e.ticket (is_freeing r) ≡ None = none_after (gone ++ e ∷ []) e.ticket (is_freeing r) (all_joined (λ x. x.ticket ≤ e.ticket) gone (e ∷ []) (all_weaker (λ x. x.ticket < e.ticket) (λ x. x.ticket ≤ e.ticket) (λ x lt. omega arith) gone below) (le_refl e.ticket, tt)) in
     elim (nat_lt a e.ticket && is_end r e) as (λ c. (if c then with_ends r a owner (Some e.ticket) None else with_ends r a owner None None) ≡ with_ends r a owner (if c then Some e.ticket else None) (freed_in (gone ++ e ∷ []) r (if c then Some e.ticket else None))) [
       | true ↦ ap (with_ends r a owner (Some e.ticket)) (sym none)
       | false ↦ refl
@@ -124,17 +124,17 @@ none_more gone e a le =
 
 -- the owner of a period, by the entry at which it begins and the entries below that
 abbrev owner_from : ℕ → List Entry → Option Entry → Option Owner
-owner_from r before o = option_and_then (owner_by r (is_initialized before)) o
+owner_from r before o = option_and_then (owner_by r (was_initialized before)) o
 
 owner_from_same : (gone : List Entry) (e : Entry) (r a : ℕ) (o : Option Entry) → ((x : Entry) → o ≡ Some x → a < e.ticket) → owner_from r (entries_below (gone ++ e ∷ []) a) o ≡ owner_from r (entries_below gone a) o
 owner_from_same gone e r a None found = refl
 owner_from_same gone e r a (Some x) found =
     let le : a ≤ e.ticket = omega (arith, found x refl) in
-    ap (λ (es : List Entry). owner_by r (is_initialized es) x) (none_more gone e a le)
+    ap (λ (es : List Entry). owner_by r (was_initialized es) x) (none_more gone e a le)
 
 owner_from_more : (gone : List Entry) (e : Entry) (r a : ℕ) → AreBelow e gone → (b : Bool) → eqb e.ticket a ≡ b
     → owner_from r (entries_below (gone ++ e ∷ []) a) (option_or (entry_at gone a) (if b then Some e else None))
-    ≡ option_or (owner_from r (entries_below gone a) (entry_at gone a)) (if b then owner_by r (is_initialized gone) e else None)
+    ≡ option_or (owner_from r (entries_below gone a) (entry_at gone a)) (if b then owner_by r (was_initialized gone) e else None)
 owner_from_more gone e r a below false other =
     ap (owner_from r (entries_below (gone ++ e ∷ []) a)) (or_none (entry_at gone a))
     ∙ owner_from_same gone e r a (entry_at gone a) (λ x found. found_below e gone a x below found)
@@ -145,16 +145,16 @@ owner_from_more gone e r a below true same =
     let kept : entries_below (gone ++ e ∷ []) a ≡ gone =
     subst (λ (t : ℕ). entries_below (gone ++ e ∷ []) t ≡ gone) is (none_more gone e e.ticket (le_refl e.ticket) ∙ all_kept e gone below) in
     ap (owner_from r (entries_below (gone ++ e ∷ []) a)) (none_or (entry_at gone a) (Some e) none)
-    ∙ ap (λ (es : List Entry). owner_by r (is_initialized es) e) kept
-    ∙ sym (none_or (owner_from r (entries_below gone a) (entry_at gone a)) (owner_by r (is_initialized gone) e) (ap (owner_from r (entries_below gone a)) none))
+    ∙ ap (λ (es : List Entry). owner_by r (was_initialized es) e) kept
+    ∙ sym (none_or (owner_from r (entries_below gone a) (entry_at gone a)) (owner_by r (was_initialized gone) e) (ap (owner_from r (entries_below gone a)) none))
 
 pub owner_more : (gone : List Entry) (e : Entry) (r a : ℕ) → AreBelow e gone
-    → owner_of_period (gone ++ e ∷ []) r a ≡ option_or (owner_of_period gone r a) (if e.ticket == a then owner_by r (is_initialized gone) e else None)
+    → owner_of_period (gone ++ e ∷ []) r a ≡ option_or (owner_of_period gone r a) (if e.ticket == a then owner_by r (was_initialized gone) e else None)
 owner_more gone e r a below =
-    let found : owner_from r (entries_below (gone ++ e ∷ []) a) (entry_at (gone ++ e ∷ []) a) ≡ option_or (owner_from r (entries_below gone a) (entry_at gone a)) (if e.ticket == a then owner_by r (is_initialized gone) e else None) =
+    let found : owner_from r (entries_below (gone ++ e ∷ []) a) (entry_at (gone ++ e ∷ []) a) ≡ option_or (owner_from r (entries_below gone a) (entry_at gone a)) (if e.ticket == a then owner_by r (was_initialized gone) e else None) =
     ap (owner_from r (entries_below (gone ++ e ∷ []) a)) (find-append (λ x. x.ticket == a) gone (e ∷ [])) ∙ owner_from_more gone e r a below (eqb e.ticket a) refl in
     elim (a == 0) as (λ b. (if b then Some owners.Os else owner_from r (entries_below (gone ++ e ∷ []) a) (entry_at (gone ++ e ∷ []) a))
-    ≡ option_or (if b then Some owners.Os else owner_from r (entries_below gone a) (entry_at gone a)) (if e.ticket == a then owner_by r (is_initialized gone) e else None)) [
+    ≡ option_or (if b then Some owners.Os else owner_from r (entries_below gone a) (entry_at gone a)) (if e.ticket == a then owner_by r (was_initialized gone) e else None)) [
       | true ↦ refl
       | false ↦ found
     ]
@@ -172,7 +172,7 @@ known_more gone e r a initialized below None =
     refl
 
 -- what is known of a period after one more entry is what all of them tell
-pub period_next : (gone : List Entry) (e : Entry) (r a : ℕ) (initialized : ℕ → Bool) → AreBelow e gone → owner_by r initialized e ≡ owner_by r (is_initialized gone) e
+pub period_next : (gone : List Entry) (e : Entry) (r a : ℕ) (initialized : ℕ → Bool) → AreBelow e gone → owner_by r initialized e ≡ owner_by r (was_initialized gone) e
     → known_after r a initialized (period_in gone r a) e ≡ period_in (gone ++ e ∷ []) r a
 period_next gone e r a initialized below same =
     known_more gone e r a initialized below (owner_of_period gone r a)

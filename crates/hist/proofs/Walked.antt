@@ -16,7 +16,7 @@ use Rattle.mon_model.specs.OnRegion.{owner_made}
 use Rattle.hist.specs.declared.event.Entry.{Entry}
 use Rattle.hist.specs.declared.period.Period.{Period}
 use Rattle.hist.specs.Merging.{Ascend}
-use Rattle.hist.specs.Period.{NameOwners, NamesOwnerIn, is_initialized, initialized_after, owner_by, owner_of_period, period_with, period_in}
+use Rattle.hist.specs.Period.{NameOwners, NamesOwnerIn, was_initialized, initialized_after, owner_by, owner_of_period, period_with, period_in}
 use Rattle.hist.specs.Walk.{flag_of, FlagsGoOn, known_after}
 use Rattle.hist.proofs.Periods.{AreBelow, period_next}
 
@@ -24,7 +24,7 @@ use Rattle.hist.proofs.Periods.{AreBelow, period_next}
 pub record Walked (h rest : List Entry) (r a : ℕ) (flags : List Bool) (known : Option Period) : Type 0 where
   pub gone : List Entry
   pub all : gone ++ rest ≡ h
-  pub slots : (slot : ℕ) → slot < 8 → flag_of flags slot ≡ is_initialized gone slot
+  pub slots : (slot : ℕ) → slot < 8 → flag_of flags slot ≡ was_initialized gone slot
   pub period : known ≡ period_in gone r a
 
 pub walked_first : (h : List Entry) (r a : ℕ) (known : Option Period) → known ≡ period_in [] r a → Walked h h r a (replicate 8 false) known
@@ -84,5 +84,5 @@ walked_next h e rest r a flags flags_after known known_then ascend names walked 
   period =
       is ∙ ap (λ (k : Option Period). known_after r a (flag_of flags) k e) walked.period
       ∙ period_next walked.gone e r a (flag_of flags) (below_next walked.gone e rest (subst Ascend (sym walked.all) ascend))
-      (owner_same r (flag_of flags) (is_initialized walked.gone) walked.slots e (walked_names h e rest r a flags known names walked));
+      (owner_same r (flag_of flags) (was_initialized walked.gone) walked.slots e (walked_names h e rest r a flags known names walked));
 }

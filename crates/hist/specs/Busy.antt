@@ -22,12 +22,12 @@ abbrev pub own : ℕ → List Entry → List Entry
 own core h = filter (λ e. e.core == core) h
 
 -- the call of a core with this serial, and the one before it, if there are such
-abbrev pub call_of : List Entry → ℕ → ℕ → Option Entry
-call_of h core serial = find (λ e. e.core == core && e.serial == serial) h
+abbrev pub call_with_serial : List Entry → ℕ → ℕ → Option Entry
+call_with_serial h core serial = find (λ e. e.core == core && e.serial == serial) h
 
 abbrev pub call_before : List Entry → ℕ → ℕ → Option Entry
 call_before h core zero = None
-call_before h core (suc serial) = call_of h core serial
+call_before h core (suc serial) = call_with_serial h core serial
 
 -- What a core has under way: no call that still has to draw its ticket; one that has taken these objects, in this
 -- order, and nothing else; or one that then found a lock held by the holder's call with this serial.
@@ -87,7 +87,7 @@ pub record HasTaken (lock : ObjectId) (e : Entry) : Type 0 where
 -- the call behind all its entries.
 abbrev pub CallHasTaken : List Entry → (ℕ → UnderWay) → ℕ → ℕ → ObjectId → Type 0
 CallHasTaken h now core serial lock =
-    IsSomeAnd (call_of h core serial) (HasTaken lock)
+    IsSomeAnd (call_with_serial h core serial) (HasTaken lock)
     ⊎ ((serial ≡ length (own core h)) × Contains (taken_by (now core)) lock)
 
 -- ---- the entry
@@ -104,7 +104,7 @@ HasBegun h e holder serial = IfSome (call_before h holder serial) (λ x. x.ticke
 -- it was not over when the call of e's core before e was: the call behind it has a higher ticket than that
 abbrev pub WasNotOver : List Entry → Entry → ℕ → ℕ → Type 0
 WasNotOver h e holder serial =
-    IfSome (call_of h holder (serial + 1)) (λ x. IfSome (call_before h e.core e.serial) (λ own. own.ticket < x.ticket))
+    IfSome (call_with_serial h holder (serial + 1)) (λ x. IfSome (call_before h e.core e.serial) (λ own. own.ticket < x.ticket))
 
 -- entry e names a lock that another core's call with this serial had taken then
 pub record MetHeldLock (shape : Shape) (h : List Entry) (now : ℕ → UnderWay) (e : Entry) (lock : ObjectId)

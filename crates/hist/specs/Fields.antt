@@ -15,7 +15,7 @@ use Rattle.hist.specs.declared.event.Event.{Event}
 use Rattle.hist.specs.declared.event.Event.TheVariants as events
 use Rattle.hist.specs.declared.period.Period.{Period}
 use Rattle.hist.specs.History.{entries_of, history, digest_of}
-use Rattle.hist.specs.Legal.{AreTickets, IsNext, AreOwnLogs, has_its_page, IsLegalEntry, AreLegalEntries, Legal}
+use Rattle.hist.specs.Legal.{AreTickets, IsNextOwn, AreOwnLogs, has_its_page, IsLegalEntry, AreLegalEntries, Legal}
 use Rattle.hist.specs.Period.{period_in}
 use Rattle.hist.specs.SafeLog.{IsFlush, mode_after, IsOpenTo, ClearedSince, IsSafeTouch, IsTouch}
 use Rattle.hist.specs.Busy.{UnderWay, as_entry, has_tried, HasTaken, CallHasTaken, TriesUpTo, HasBegun, WasNotOver, MetHeldLock, AreRightlyBusy, Busy}
@@ -92,7 +92,7 @@ none = 9
 
 pub record ButNoneIs : Type 0 where
   pub legal : (shape : Shape) (logs : List (List Event)) → LegalBut none shape logs → Legal shape logs
-  pub next : (owner next before : ℕ) (e : Entry) → NextBut none owner next before e → IsNext owner next before e
+  pub next : (owner next before : ℕ) (e : Entry) → NextBut none owner next before e → IsNextOwn owner next before e
   pub entry : (s : State) (e : Entry) → EntryBut none s e → IsLegalEntry s e
   pub busy : (shape : Shape) (logs : List (List Event)) (now : ℕ → UnderWay) → BusyBut none shape logs now
       → Busy shape logs now

@@ -13,7 +13,7 @@ use Rattle.hist.specs.Printing.{ArePrintable}
 use Rattle.hist.specs.Touched.{is_touched}
 use Rattle.hist.specs.SafeLog.{ClearedSince}
 use Rattle.hist.specs.Busy.{own, UnderWay, Busy}
-use Rattle.hist.specs.Measured.{answered}
+use Rattle.hist.specs.Measured.{answer_of}
 
 -- legal logs of a machine of at most 16 cores can be merged
 abbrev pub LegalLogsMerge : Type 0
@@ -44,9 +44,9 @@ NeverBusyAlone = (shape : Shape) (logs : List (List Event)) → shape.cores ≡ 
 -- measurement of its items in the calls so far.
 abbrev pub MeasuredByHistory : Type 0
 MeasuredByHistory = (shape : Shape) (logs : List (List Event)) (k : ℕ) → Legal shape logs
-    → IsMeasured (map answered (take k (history logs))) (state_after shape logs k)
+    → IsMeasured (map answer_of (take k (history logs))) (state_after shape logs k)
 
 -- the same of the last state and all calls
 abbrev pub MeasuredAtLast : Type 0
 MeasuredAtLast = (shape : Shape) (logs : List (List Event)) → Legal shape logs
-    → IsMeasured (map answered (history logs)) (last_state shape logs)
+    → IsMeasured (map answer_of (history logs)) (last_state shape logs)

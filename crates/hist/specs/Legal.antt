@@ -19,7 +19,7 @@ AreTickets k (e ∷ es) = (e.ticket ≡ k) × AreTickets (k + 1) es
 
 -- One entry of a core's log: it is this core's, has this serial, and its ticket is above that of the
 -- entry before it.
-pub record IsNext (owner next before : ℕ) (e : Entry) : Type 0 where
+pub record IsNextOwn (owner next before : ℕ) (e : Entry) : Type 0 where
   pub core : e.core ≡ owner
   pub serial : e.serial ≡ next
   pub ascends : before < e.ticket
@@ -27,13 +27,13 @@ pub record IsNext (owner next before : ℕ) (e : Entry) : Type 0 where
 -- the entries of one core from this serial on, above this ticket
 abbrev pub AreOwn : ℕ → ℕ → ℕ → List Entry → Type 0
 AreOwn core serial before [] = Unit {0}
-AreOwn core serial before (e ∷ es) = IsNext core serial before e × AreOwn core (serial + 1) e.ticket es
+AreOwn core serial before (e ∷ es) = IsNextOwn core serial before e × AreOwn core (serial + 1) e.ticket es
 
 -- each core's log has its own entries, with serials from 0 on and ascending tickets
 abbrev pub AreOwnLogs : List (List Event) → Type 0
 AreOwnLogs logs = (core : ℕ) → core < length logs → AreOwn core 0 0 (entries_of (log_of logs core))
 
--- an entry has a page exactly where it is a load_page that answered Ok
+-- an entry has a page exactly where it is a load_page that answer_of Ok
 abbrev pub has_its_page : Entry → Bool
 has_its_page e = if is_load_page e.call then is_done e.reply else false
 

@@ -4,5 +4,5 @@ use Rattle.hist.specs.declared.event.Entry.{Entry}
 use Rattle.hist.specs.History.{digest_of}
 
 -- an entry's call with its answer
-abbrev pub answered : Entry → Answered
-answered e = record { call = e.call; reply = e.reply; digest = digest_of e.page }
+abbrev pub answer_of : Entry → Answered
+answer_of e = record { call = e.call; reply = e.reply; digest = digest_of e.page }

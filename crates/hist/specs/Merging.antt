@@ -44,7 +44,7 @@ BeginsWithEntry (events.Entry e ∷ later) = Unit {0}
 BeginsWithEntry (events.Touch region since ∷ later) = ⊥
 BeginsWithEntry (events.Stop line why ∷ later) = ⊥
 
-pub record AreLeft (rests : List (Bor (List Event))) : Type 0 where
+pub record AreStillLeft (rests : List (Bor (List Event))) : Type 0 where
   pub apart : AreApart (map entries_left rests)
   pub begin : AllByRecursion (λ rest. BeginsWithEntry rest.now) rests
 

@@ -20,8 +20,8 @@ abbrev pub initialized_after : ℕ → Bool → Entry → Bool
 initialized_after slot before e = if is_done e.reply then initialized_by slot e.call before else before
 
 -- whether these entries have an Ok init of the enclave slot with no Ok create of it behind
-abbrev pub is_initialized : List Entry → ℕ → Bool
-is_initialized es slot = fold (initialized_after slot) false es
+abbrev pub was_initialized : List Entry → ℕ → Bool
+was_initialized es slot = fold (initialized_after slot) false es
 
 -- whom an entry makes the owner of region r
 abbrev pub owner_by : ℕ → (ℕ → Bool) → Entry → Option Owner
@@ -37,7 +37,7 @@ entries_below h ticket = filter (λ e. nat_lt e.ticket ticket) h
 -- the owner of the period (r, a), if there is one: that of region r at the start is the OS
 abbrev pub owner_of_period : List Entry → ℕ → ℕ → Option Owner
 owner_of_period h r a =
-    if a == 0 then Some owners.Os else option_and_then (owner_by r (is_initialized (entries_below h a))) (entry_at h a)
+    if a == 0 then Some owners.Os else option_and_then (owner_by r (was_initialized (entries_below h a))) (entry_at h a)
 
 -- ---- the end
 
@@ -46,8 +46,8 @@ abbrev pub is_end : ℕ → Entry → Bool
 is_end r e = is_done e.reply && withdraws r e.call e.tried
 
 -- an Ok free of r
-abbrev pub is_free : ℕ → Entry → Bool
-is_free r e = is_done e.reply && frees r e.call
+abbrev pub is_freeing : ℕ → Entry → Bool
+is_freeing r e = is_done e.reply && frees r e.call
 
 -- the first ticket above this one of an entry that passes the test
 abbrev pub ticket_after : List Entry → ℕ → (Entry → Bool) → Option ℕ
@@ -57,7 +57,7 @@ ticket_after h ticket test = option_map (λ e. e.ticket) (find (λ e. nat_lt tic
 abbrev pub period_with : List Entry → ℕ → ℕ → Owner → Period
 period_with h r a owner =
     let b = ticket_after h a (is_end r) in
-    let z = option_and_then (λ at. ticket_after h at (is_free r)) b in
+    let z = option_and_then (λ at. ticket_after h at (is_freeing r)) b in
     record { region = r; owner = owner; since = a; blocked = b; freed = z }
 
 abbrev pub period_in : List Entry → ℕ → ℕ → Option Period

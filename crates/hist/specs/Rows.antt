@@ -10,6 +10,7 @@ use Rattle.mon_types.specs.declared.object.ObjectId.{ObjectId}
 use Rattle.mon_types.specs.declared.object.ObjectId.TheVariants as objects
 use Rattle.mon_types.specs.Owns.{os_word}
 use Rattle.mon_types.specs.Replies.{done}
+use Rattle.mon_model.specs.Examples.{r3, c0, c1}
 use Rattle.mon_model.specs.Tries.{tried_set}
 use Rattle.hist.specs.declared.event.PageInput.{PageInput}
 use Rattle.hist.specs.declared.event.Entry.{Entry}
@@ -35,25 +36,16 @@ entry_with page ticket core serial call reply tried =
 abbrev pub entry : ℕ → ℕ → ℕ → Call → Reply → List ObjectId → Entry
 entry ticket core serial call reply tried = entry_with None ticket core serial call reply tried
 
-abbrev pub r3 : ObjectId
-r3 = objects.Region 3
-
-abbrev pub c0 : ObjectId
-c0 = objects.Cell 0
-
-abbrev pub c1 : ObjectId
-c1 = objects.Cell 1
-
 -- at this ticket, by this core, with this serial of its own: an Ok block of region 3, an Ok flush
-abbrev pub blocked : ℕ → ℕ → ℕ → Entry
-blocked ticket core serial = entry ticket core serial (calls.Block 3) done (r3 ∷ [])
+abbrev pub block_3 : ℕ → ℕ → ℕ → Entry
+block_3 ticket core serial = entry ticket core serial (calls.Block 3) done (r3 ∷ [])
 
 abbrev pub flushed : ℕ → ℕ → ℕ → Entry
 flushed ticket core serial = entry ticket core serial calls.Flush done (objects.Cell core ∷ [])
 
 -- an Ok free of region 3 on one core, and one on two; one that is refused
-abbrev pub freed : ℕ → ℕ → ℕ → Entry
-freed ticket core serial = entry ticket core serial (calls.Free 3) done (r3 ∷ c0 ∷ [])
+abbrev pub free_3 : ℕ → ℕ → ℕ → Entry
+free_3 ticket core serial = entry ticket core serial (calls.Free 3) done (r3 ∷ c0 ∷ [])
 
 abbrev pub both_freed : ℕ → ℕ → ℕ → Entry
 both_freed ticket core serial = entry ticket core serial (calls.Free 3) done (r3 ∷ c0 ∷ c1 ∷ [])
@@ -65,8 +57,8 @@ not_freed ticket core serial = entry ticket core serial (calls.Free 3) replies.N
 abbrev pub assigned_to_os : ℕ → ℕ → ℕ → Entry
 assigned_to_os ticket core serial = entry ticket core serial (calls.Assign 3 os_word) done (r3 ∷ [])
 
-abbrev pub created : ℕ → ℕ → ℕ → Entry
-created ticket core serial = entry ticket core serial (calls.Create 0 65536 16384) done (objects.Enclave 0 ∷ [])
+abbrev pub create_0 : ℕ → ℕ → ℕ → Entry
+create_0 ticket core serial = entry ticket core serial (calls.Create 0 65536 16384) done (objects.Enclave 0 ∷ [])
 
 abbrev pub assigned_to_0 : ℕ → ℕ → ℕ → Entry
 assigned_to_0 ticket core serial = entry ticket core serial (calls.Assign 3 0) done (objects.Enclave 0 ∷ r3 ∷ [])
@@ -84,26 +76,26 @@ logged es = map (λ e. events.Entry e) es
 
 -- core 1 meets the lock that core 0 has taken for its block
 abbrev pub lost_race : List (List Event)
-lost_race = logged (blocked 2 0 0 ∷ []) ∷ logged (met 1 1 0 0 0 ∷ []) ∷ []
+lost_race = logged (block_3 2 0 0 ∷ []) ∷ logged (met 1 1 0 0 0 ∷ []) ∷ []
 
 -- core 1's flush meets core 0's free, which holds both cells
 abbrev pub free_meets_flush : List (List Event)
 free_meets_flush =
-    logged (blocked 1 0 0 ∷ not_freed 3 0 1 ∷ [])
+    logged (block_3 1 0 0 ∷ not_freed 3 0 1 ∷ [])
     ∷ logged (entry 2 1 0 calls.Flush (replies.ConcurrentCall c1 0 1) (c1 ∷ []) ∷ flushed 4 1 1 ∷ [])
     ∷ []
 
 -- core 1 touches region 3 before its block and flushes between that and its free
 abbrev pub stale_translation : List (List Event)
 stale_translation =
-    logged (blocked 1 0 0 ∷ flushed 2 0 1 ∷ not_freed 3 0 2 ∷ both_freed 5 0 3 ∷ [])
+    logged (block_3 1 0 0 ∷ flushed 2 0 1 ∷ not_freed 3 0 2 ∷ both_freed 5 0 3 ∷ [])
     ∷ (events.Touch 3 0 ∷ logged (flushed 4 1 0 ∷ []))
     ∷ []
 
 -- the same, but the touch stands behind the flush: legal, but not safe
 abbrev pub moved_touch : List (List Event)
 moved_touch =
-    logged (blocked 1 0 0 ∷ flushed 2 0 1 ∷ not_freed 3 0 2 ∷ both_freed 5 0 3 ∷ [])
+    logged (block_3 1 0 0 ∷ flushed 2 0 1 ∷ not_freed 3 0 2 ∷ both_freed 5 0 3 ∷ [])
     ∷ (logged (flushed 4 1 0 ∷ []) ++ events.Touch 3 0 ∷ [])
     ∷ []
 
@@ -123,19 +115,19 @@ meets_now (suc core) = Refused (calls.Block 3) [] r3 0 0
 
 -- `count`: a second log on one core
 abbrev pub second_log : List (List Event)
-second_log = logged (blocked 1 0 0 ∷ []) ∷ [] ∷ []
+second_log = logged (block_3 1 0 0 ∷ []) ∷ [] ∷ []
 
 -- `tickets`: the first ticket is 2
 abbrev pub late_ticket : List (List Event)
-late_ticket = logged (blocked 2 0 0 ∷ []) ∷ []
+late_ticket = logged (block_3 2 0 0 ∷ []) ∷ []
 
 -- `core`: an entry of core 1 in core 0's log
 abbrev pub anothers_entry : List (List Event)
-anothers_entry = logged (blocked 1 1 0 ∷ []) ∷ [] ∷ []
+anothers_entry = logged (block_3 1 1 0 ∷ []) ∷ [] ∷ []
 
 -- `serial`: the first serial is 1
 abbrev pub late_serial : List (List Event)
-late_serial = logged (blocked 1 0 1 ∷ []) ∷ []
+late_serial = logged (block_3 1 0 1 ∷ []) ∷ []
 
 -- `ascends`: the later entry has the lower ticket
 abbrev pub falling_tickets : List (List Event)
@@ -161,18 +153,18 @@ alone e = logged (e ∷ []) ∷ []
 
 -- `core`: the holder is no core of the machine, though its call has an entry
 abbrev pub no_core : List (List Event)
-no_core = logged (blocked 2 2 0 ∷ []) ∷ logged (met 1 1 0 2 0 ∷ []) ∷ []
+no_core = logged (block_3 2 2 0 ∷ []) ∷ logged (met 1 1 0 2 0 ∷ []) ∷ []
 
 -- `other`: core 1 meets its own lock
 abbrev pub own_lock : List (List Event)
-own_lock = [] ∷ logged (blocked 1 1 0 ∷ met 2 1 1 1 0 ∷ []) ∷ []
+own_lock = [] ∷ logged (block_3 1 1 0 ∷ met 2 1 1 1 0 ∷ []) ∷ []
 
 -- `tried`: the call names a lock that it has not tried
 abbrev pub names_untried : Entry
 names_untried = entry 1 1 0 (calls.Block 3) (replies.ConcurrentCall r3 0 0) []
 
 abbrev pub untried_lock : List (List Event)
-untried_lock = logged (blocked 2 0 0 ∷ []) ∷ logged (names_untried ∷ []) ∷ []
+untried_lock = logged (block_3 2 0 0 ∷ []) ∷ logged (names_untried ∷ []) ∷ []
 
 -- `held`: the holder has no such call
 abbrev pub no_call : List (List Event)
@@ -188,11 +180,11 @@ both_met = logged (met 2 0 0 1 0 ∷ []) ∷ logged (met 1 1 0 0 0 ∷ []) ∷ [
 
 -- `begun`: the holder's call before that one came later
 abbrev pub not_begun : List (List Event)
-not_begun = logged (flushed 2 0 0 ∷ blocked 3 0 1 ∷ []) ∷ logged (met 1 1 0 0 1 ∷ []) ∷ []
+not_begun = logged (flushed 2 0 0 ∷ block_3 3 0 1 ∷ []) ∷ logged (met 1 1 0 0 1 ∷ []) ∷ []
 
 -- `under_way`: the holder's call behind that one came before core 1's first
 abbrev pub was_over : List (List Event)
-was_over = logged (blocked 1 0 0 ∷ flushed 2 0 1 ∷ []) ∷ logged (flushed 3 1 0 ∷ met 4 1 1 0 0 ∷ []) ∷ []
+was_over = logged (block_3 1 0 0 ∷ flushed 2 0 1 ∷ []) ∷ logged (flushed 3 1 0 ∷ met 4 1 1 0 0 ∷ []) ∷ []
 
 -- `refused`: core 1 has found a lock held by a core that has nothing under way
 abbrev pub nobody_holds : ℕ → UnderWay
@@ -215,18 +207,18 @@ no_period = (events.Touch 3 5 ∷ []) ∷ []
 
 -- `before_block`: core 1 has an entry behind the block, and then touches
 abbrev pub late_touch : List (List Event)
-late_touch = logged (blocked 1 0 0 ∷ []) ∷ (logged (flushed 2 1 0 ∷ []) ++ events.Touch 3 0 ∷ []) ∷ []
+late_touch = logged (block_3 1 0 0 ∷ []) ∷ (logged (flushed 2 1 0 ∷ []) ++ events.Touch 3 0 ∷ []) ∷ []
 
 -- `after_beginning`: the touch stands before the entry at which its period begins
 abbrev pub behind_early : List Event
-behind_early = logged (blocked 1 0 0 ∷ flushed 2 0 1 ∷ freed 3 0 2 ∷ assigned_to_os 4 0 3 ∷ [])
+behind_early = logged (block_3 1 0 0 ∷ flushed 2 0 1 ∷ free_3 3 0 2 ∷ assigned_to_os 4 0 3 ∷ [])
 
 abbrev pub early_touch : List (List Event)
 early_touch = (events.Touch 3 4 ∷ behind_early) ∷ []
 
 -- `owner`: the OS touches a region of enclave 0
 abbrev pub before_foreign : List Event
-before_foreign = logged (blocked 1 0 0 ∷ flushed 2 0 1 ∷ freed 3 0 2 ∷ created 4 0 3 ∷ assigned_to_0 5 0 4 ∷ [])
+before_foreign = logged (block_3 1 0 0 ∷ flushed 2 0 1 ∷ free_3 3 0 2 ∷ create_0 4 0 3 ∷ assigned_to_0 5 0 4 ∷ [])
 
 abbrev pub foreign_period : Period
 foreign_period = record { region = 3; owner = owners.Enclave 0; since = 5; blocked = None; freed = None }
@@ -236,7 +228,7 @@ foreign_touch = (before_foreign ++ events.Touch 3 5 ∷ []) ∷ []
 
 -- `counted_flush`: core 1 does not flush between the block and the free
 abbrev pub never_flushed : List (List Event)
-never_flushed = logged (blocked 1 0 0 ∷ flushed 2 0 1 ∷ both_freed 3 0 2 ∷ []) ∷ (events.Touch 3 0 ∷ []) ∷ []
+never_flushed = logged (block_3 1 0 0 ∷ flushed 2 0 1 ∷ both_freed 3 0 2 ∷ []) ∷ (events.Touch 3 0 ∷ []) ∷ []
 
 -- `cleared`: the same touch twice
 abbrev pub touched_twice : List (List Event)

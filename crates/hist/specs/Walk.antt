@@ -5,7 +5,7 @@ use Rattle.std.specs.Option.{option_map}
 use Rattle.mon_types.specs.declared.region.Owner.{Owner}
 use Rattle.hist.specs.declared.event.Entry.{Entry}
 use Rattle.hist.specs.declared.period.Period.{Period}
-use Rattle.hist.specs.Period.{owner_by, is_end, is_free, initialized_after}
+use Rattle.hist.specs.Period.{owner_by, is_end, is_freeing, initialized_after}
 
 -- what a list of eight answers says of a slot
 abbrev pub flag_of : List Bool → ℕ → Bool
@@ -22,7 +22,7 @@ begun_period r a owner = record { region = r; owner = owner; since = a; blocked 
 -- the period after one more entry, by whether it is blocked and freed already
 abbrev pub go_on : Period → Entry → Option ℕ → Option ℕ → Period
 go_on p e None freed = if nat_lt p.since e.ticket && is_end p.region e then record p { blocked = Some e.ticket } else p
-go_on p e (Some b) None = if nat_lt b e.ticket && is_free p.region e then record p { freed = Some e.ticket } else p
+go_on p e (Some b) None = if nat_lt b e.ticket && is_freeing p.region e then record p { freed = Some e.ticket } else p
 go_on p e (Some b) (Some z) = p
 
 -- what is known of the period (r, a) after one more entry

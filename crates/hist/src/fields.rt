@@ -10,7 +10,8 @@ ghost use Rattle.hist.specs.Busy.{idle};
 ghost use Rattle.hist.specs.Period.{period_in};
 ghost use Rattle.hist.specs.SafeLog.{SafeLog};
 ghost use Rattle.hist.specs.Fields.{LegalBut, NextBut, EntryBut, BusyBut, LockBut, TakenBut, TouchBut, SafeTouchBut, ButNoneIs};
-ghost use Rattle.hist.specs.Rows.{r3, blocked, flushed, met, logged, second_log, late_ticket, anothers_entry, late_serial, falling_tickets, alone, wrongly_refused, tries_nothing, has_a_page, no_core, own_lock, untried_lock, names_untried, no_call, other_object, both_met, not_begun, was_over, nobody_holds, period_of_3, nowhere, no_period, late_touch, early_touch, behind_early, foreign_touch, before_foreign, foreign_period, never_flushed, touched_twice};
+ghost use Rattle.mon_model.specs.Examples.{r3};
+ghost use Rattle.hist.specs.Rows.{block_3, flushed, met, logged, second_log, late_ticket, anothers_entry, late_serial, falling_tickets, alone, wrongly_refused, tries_nothing, has_a_page, no_core, own_lock, untried_lock, names_untried, no_call, other_object, both_met, not_begun, was_over, nobody_holds, period_of_3, nowhere, no_period, late_touch, early_touch, behind_early, foreign_touch, before_foreign, foreign_period, never_flushed, touched_twice};
 
 /// The definitions field by field are the definitions, where no field is to fail.
 pub fn fields_are_all()
@@ -30,13 +31,13 @@ pub fn late_ticket()
 /// An entry in another core's log.
 pub fn anothers_entry()
     ensures own { LegalBut 2 (plain 2) anothers_entry }
-    ensures core { NextBut 0 0 0 0 (blocked 1 1 0) }
+    ensures core { NextBut 0 0 0 0 (block_3 1 1 0) }
 {}
 
 /// A first serial of 1.
 pub fn late_serial()
     ensures own { LegalBut 2 (plain 1) late_serial }
-    ensures serial { NextBut 1 0 0 0 (blocked 1 0 1) }
+    ensures serial { NextBut 1 0 0 0 (block_3 1 0 1) }
 {}
 
 /// A later entry with a lower ticket.
@@ -152,7 +153,7 @@ pub fn foreign_touch()
     ensures owner { SafeTouchBut 2 before_foreign (events.Touch 3 5) [] foreign_period }
 {}
 
-/// A touch of a region that was freed with no flush of the core.
+/// A touch of a region that was free_3 with no flush of the core.
 pub fn never_flushed()
     ensures safe { ¬ SafeLog (plain 2) never_flushed }
     ensures period { period_in (history never_flushed) 3 0 ≡ Some (period_of_3 0 (Some 1) (Some 3)) }

@@ -22,13 +22,13 @@ pub struct Merge<'a> {
 impl<'a> Model for Merge<'a> {
     ghost use Rattle.std.specs.Prelude.{List};
     ghost use Rattle.hist.specs.declared.event.Entry.{Entry};
-    ghost use Rattle.hist.specs.Merging.{left_by_ticket, AreLeft};
+    ghost use Rattle.hist.specs.Merging.{left_by_ticket, AreStillLeft};
 
     ghost Value = { List Entry };
 
     ghost view = { λ m. left_by_ticket m.rests };
 
-    ghost invariant = { λ m. AreLeft m.rests };
+    ghost invariant = { λ m. AreStillLeft m.rests };
 }
 
 impl<'a> Merge<'a> {

@@ -9,7 +9,7 @@ ghost use Rattle.mon_model.specs.OnRegion.{sole_slot};
 ghost use Rattle.hist.specs.Logged.{events_of};
 ghost use Rattle.hist.specs.History.{history};
 ghost use Rattle.hist.specs.Merging.{CanMerge};
-ghost use Rattle.hist.specs.Period.{NameOwners, NamesOwnerIn, period_in, owner_by, is_end, is_free};
+ghost use Rattle.hist.specs.Period.{NameOwners, NamesOwnerIn, period_in, owner_by, is_end, is_freeing};
 ghost use Rattle.hist.specs.Walk.{flag_of, FlagsGoOn, begun_period, go_on, known_after};
 
 use crate::event::Entry;
@@ -30,7 +30,7 @@ pub struct Period {
 
 /// The period of a region below 64 that began at ticket `since`; None exactly where none began then. At
 /// 0, the start, one began for every region. The logs are such as can be merged; each assign that
-/// answered Ok names the OS or a slot below 8, and each such accept_region tried exactly one enclave.
+/// answer_of Ok names the OS or a slot below 8, and each such accept_region tried exactly one enclave.
 pub fn period_of(logs: &[Log], region: u8, since: u32) -> Option<Period>
     requires logs { CanMerge (events_of logs.now) }
     requires region { region < 64 }
@@ -98,7 +98,7 @@ fn go_on(period: Period, entry: &Entry) -> Period
             blocked: Some(entry.ticket),
             ..period
         },
-        (Some(at), None) if entry.ticket > at && is_free(period.region, entry) => Period {
+        (Some(at), None) if entry.ticket > at && is_freeing(period.region, entry) => Period {
             freed: Some(entry.ticket),
             ..period
         },
@@ -126,8 +126,8 @@ fn is_end(region: u8, entry: &Entry) -> bool
 }
 
 /// Whether the entry is an Ok free of the region.
-fn is_free(region: u8, entry: &Entry) -> bool
-    ensures { result ≡ is_free region entry.now }
+fn is_freeing(region: u8, entry: &Entry) -> bool
+    ensures { result ≡ is_freeing region entry.now }
 {
     is_done(entry) && matches!(entry.call, Call::Free { r } if r == u64::from(region))
 }

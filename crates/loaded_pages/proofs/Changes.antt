@@ -5,7 +5,7 @@ use Rattle.mon_types.specs.Bits.{has_bit}
 use Rattle.mon_types.specs.Shape.{Shape, region_of_page}
 use Rattle.mon_types.specs.declared.enclave.Enclave.{Enclave}
 use Rattle.dram_map.specs.Addresses.{region_of_word}
-use Rattle.loaded_pages.specs.Content.{Content, region_zeroed, page_put, word_put}
+use Rattle.loaded_pages.specs.Content.{Content, region_zeroed, page_put, content_put}
 use Rattle.loaded_pages.specs.Facts.{word_in}
 use Rattle.loaded_pages.proofs.Tables.{put, put_same, put_other, put_beside}
 
@@ -40,17 +40,17 @@ paste_in page ws f i e = ap (λ z. cond z (get_or ws (i % 512) 0) (f i)) (eq-eqb
 
 -- ---- a word
 
-pub link_none : (x : ℕ) (f : Content) (i : ℕ) → word_put None x f i ≡ f i
-unfolding word_put
+pub link_none : (x : ℕ) (f : Content) (i : ℕ) → content_put None x f i ≡ f i
+unfolding content_put
 link_none x f i = refl
 
-pub link_other : (at x : ℕ) (f : Content) (i : ℕ) → (at ≡ i → ⊥) → word_put (Some at) x f i ≡ f i
-unfolding word_put
+pub link_other : (at x : ℕ) (f : Content) (i : ℕ) → (at ≡ i → ⊥) → content_put (Some at) x f i ≡ f i
+unfolding content_put
 link_other at x f i ne = ap (λ z. cond z x (f i)) (ne_eqb at i ne)
 
 -- by its page and its place in it
-pub link_put : (f : Content) (p i x q j : ℕ) → i < 512 → j < 512 → word_in (word_put (Some (512 * p + i)) x f) q j ≡ put (word_in f) p i x q j
-unfolding word_put
+pub link_put : (f : Content) (p i x q j : ℕ) → i < 512 → j < 512 → word_in (content_put (Some (512 * p + i)) x f) q j ≡ put (word_in f) p i x q j
+unfolding content_put
 link_put f p i x q j a b = elim (cases_eq (512 * p + i) (512 * q + j)) [
   | inl e ↦
       let pq : p ≡ q = omega arith in
@@ -75,7 +75,7 @@ page_home m p i h = ap (λ z. z / 2 ^ m.shift % m.regions) (let f : (512 * p + i
 abbrev pub Within : Shape → Enclave → Content → Content → Type 0
 Within m x g f = (i : ℕ) → (g i ≡ f i) ⊎ (has_bit x.regions (region_of_word m i) ≡ true)
 
-pub link_within : (m : Shape) (x : Enclave) (p j v : ℕ) (g f : Content) → has_bit x.regions (region_of_page m p) ≡ true → j < 512 → Within m x g f → Within m x (word_put (Some (512 * p + j)) v g) f
+pub link_within : (m : Shape) (x : Enclave) (p j v : ℕ) (g f : Content) → has_bit x.regions (region_of_page m p) ≡ true → j < 512 → Within m x g f → Within m x (content_put (Some (512 * p + j)) v g) f
 link_within m x p j v g f mine small h i = elim (cases_eq (512 * p + j) i) [
   | inl e ↦ inr (ap (λ z. has_bit x.regions (region_of_word m z)) (sym e) ∙ ap (has_bit x.regions) (page_home m p j small) ∙ mine)
   | inr ne ↦ elim (h i) [ inl q ↦ inl (link_other (512 * p + j) v g i ne ∙ q) | inr q ↦ inr q ]

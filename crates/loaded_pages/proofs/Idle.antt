@@ -22,16 +22,9 @@ use Rattle.mon_model.proofs.Carried.{carried}
 use Rattle.mon_facts.specs.Facts.{FactsHold, is_owned_by}
 use Rattle.mon_facts.proofs.FactsKept.{free-unowned, is_free-unowned}
 use Rattle.loaded_pages.specs.Content.{emptied}
-use Rattle.loaded_pages.specs.Facts.{is_idle}
+use Rattle.mon_model.specs.RegionStep.{is_idle}
+use Rattle.mon_model.proofs.Writes.{at_set}
 use Rattle.loaded_pages.proofs.Cases.{clash, none_some, some_same}
-
--- what stands at j once x was put at i
-pub at_set : {X : Type 0} (xs : List X) (i j : ℕ) (x d : X) → ((j ≡ i) × (get_or (set xs i x) j d ≡ x)) ⊎ (get_or (set xs i x) j d ≡ get_or xs j d)
-at_set [] i j x d = inr refl
-at_set (y ∷ ys) zero zero x d = inl (refl, refl)
-at_set (y ∷ ys) zero (suc j) x d = inr refl
-at_set (y ∷ ys) (suc i) zero x d = inr refl
-at_set (y ∷ ys) (suc i) (suc j) x d = elim (at_set ys i j x d) [ inl h ↦ inl (ap suc h.0, h.1) | inr e ↦ inr e ]
 
 pub gained : (w q r : ℕ) → has_bit (with_bit w q) r ≡ true → (r ≡ q) ⊎ (has_bit w r ≡ true)
 gained w q r h = elim (cases_eq r q) [ inl e ↦ inl e | inr ne ↦ inr (sym (with-other w q r ne) ∙ h) ]

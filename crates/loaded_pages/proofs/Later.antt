@@ -28,8 +28,9 @@ use Rattle.mon_model.specs.Step.{reply_of, held_reply, after, effect, without_ow
 use Rattle.mon_facts.specs.Facts.{FactsHold}
 use Rattle.mon_model.proofs.Bits.{none-has, with-keeps}
 use Rattle.mon_model.proofs.Carried.{carried}
-use Rattle.loaded_pages.specs.Facts.{is_idle}
-use Rattle.loaded_pages.proofs.Idle.{at_set, gained, assign_idle, accept_idle}
+use Rattle.mon_model.specs.RegionStep.{is_idle}
+use Rattle.mon_model.proofs.Writes.{at_set}
+use Rattle.loaded_pages.proofs.Idle.{gained, assign_idle, accept_idle}
 
 -- the calls that load nothing
 abbrev pub LoadsNothing : Call → Type 0

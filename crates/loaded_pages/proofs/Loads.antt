@@ -31,8 +31,9 @@ use Rattle.dram_map.specs.Addresses.{region_of_word}
 use Rattle.sv39_pte.specs.Tables.{pte_index, pointer_pte, leaf_pte}
 use Rattle.mon_enclaves.specs.FromItems.{table_1_for, table_0_for, leaf_for}
 use Rattle.mon_enclaves.proofs.Alike.{is_some-find}
-use Rattle.loaded_pages.specs.Content.{Content, zero_content, emptied, region_zeroed, page_put, word_put, place_in_root, place_in_table, loaded_place, loaded_pte, page_loaded, content_by, content_after}
-use Rattle.loaded_pages.specs.Facts.{is_idle, word_in, IsTable, TablesHold, PagesHold, ContentHolds}
+use Rattle.loaded_pages.specs.Content.{Content, zero_content, emptied, region_zeroed, page_put, content_put, place_in_root, place_in_table, loaded_place, loaded_pte, page_loaded, content_by, content_after}
+use Rattle.mon_model.specs.RegionStep.{is_idle}
+use Rattle.loaded_pages.specs.Facts.{word_in, IsTable, TablesHold, PagesHold, ContentHolds}
 use Rattle.loaded_pages.specs.Laws.{IsLoad}
 use Rattle.loaded_pages.proofs.Cases.{clash, none_some, some_same}
 use Rattle.loaded_pages.proofs.Tables.{put, put_same, put_other, put_beside, index_less, item, table_1_kept, table_0_kept, leaf_kept, old_1, old_0, was_1, was_0, same_1_leaf, same_0_leaf}
@@ -169,32 +170,32 @@ module _ (m : Shape) (x y : Enclave) (items : List Loaded) (f : Content) (h : Pa
     new other t k e = absurd (let l = low_table other t k in omega arith)
 
     -- a table of level 1
-    one_pages : table_1_for va items ≡ None → has_bit x.regions (region_of_page m page) ≡ true → PagesHold m y (items ++ item kinds.Table1 va page ∷ []) (word_put (Some (512 * root + pte_index 2 va)) (pointer_pte page) f)
+    one_pages : table_1_for va items ≡ None → has_bit x.regions (region_of_page m page) ≡ true → PagesHold m y (items ++ item kinds.Table1 va page ∷ []) (content_put (Some (512 * root + pte_index 2 va)) (pointer_pte page) f)
     one_pages none mine =
         let fresh : (i : ℕ) → i < 512 → word_in f page i ≡ 0 = λ i b. h.fresh page i mine above b in
         let kept = table_1_kept items root va page (word_in f) small tables none fresh apart new in
-        let g : Content = word_put (Some (512 * root + pte_index 2 va)) (pointer_pte page) f in
+        let g : Content = content_put (Some (512 * root + pte_index 2 va)) (pointer_pte page) f in
         more_pages m x y items (item kinds.Table1 va page) root f g h is same next above
         (tables_same _ root _ (word_in g) (λ i b. link_put f root (pte_index 2 va) _ root i (index_less 2 va) b) (λ o t i k b. link_put f root (pte_index 2 va) _ t.page i (index_less 2 va) b) kept)
         (λ p i a b. link_other (512 * root + pte_index 2 va) _ f (512 * p + i) (λ e. absurd (let l = root_low in let l2 = index_less 2 va in omega arith)))
 
     -- a table of level 0
-    zero_pages : (t1 : Loaded) → table_1_for va items ≡ Some t1 → table_0_for va items ≡ None → has_bit x.regions (region_of_page m page) ≡ true → PagesHold m y (items ++ item kinds.Table0 va page ∷ []) (word_put (Some (512 * t1.page + pte_index 1 va)) (pointer_pte page) f)
+    zero_pages : (t1 : Loaded) → table_1_for va items ≡ Some t1 → table_0_for va items ≡ None → has_bit x.regions (region_of_page m page) ≡ true → PagesHold m y (items ++ item kinds.Table0 va page ∷ []) (content_put (Some (512 * t1.page + pte_index 1 va)) (pointer_pte page) f)
     zero_pages t1 up none mine =
         let fresh : (i : ℕ) → i < 512 → word_in f page i ≡ 0 = λ i b. h.fresh page i mine above b in
         let kept = table_0_kept items root va page (word_in f) tables t1 up none fresh apart new in
-        let g : Content = word_put (Some (512 * t1.page + pte_index 1 va)) (pointer_pte page) f in
+        let g : Content = content_put (Some (512 * t1.page + pte_index 1 va)) (pointer_pte page) f in
         more_pages m x y items (item kinds.Table0 va page) root f g h is same next above
         (tables_same _ root _ (word_in g) (λ i b. link_put f t1.page (pte_index 1 va) _ root i (index_less 1 va) b) (λ o t i k b. link_put f t1.page (pte_index 1 va) _ t.page i (index_less 1 va) b) kept)
         (λ p i a b. link_other (512 * t1.page + pte_index 1 va) _ f (512 * p + i) (λ e. absurd (let l = low_table va t1 (inl up) in let l2 = index_less 1 va in omega arith)))
 
     -- a leaf; the words of its page may differ
     leaf_pages : (kind : LoadedKind) (perms : ℕ) (fp : Content) → ((q j : ℕ) → q ≢ page → j < 512 → word_in fp q j ≡ word_in f q j) → (leaf : (is_leaf kind ≡ true) × (is_table_1 kind ≡ false) × (is_table_0 kind ≡ false)) → (part : (at : ℕ) → served_part kind at ≡ at / 2 ^ 12)
-        → (t0 : Loaded) → table_0_for va items ≡ Some t0 → leaf_for va items ≡ None → PagesHold m y (items ++ item kind va page ∷ []) (word_put (Some (512 * t0.page + pte_index 0 va)) (leaf_pte page perms) fp)
+        → (t0 : Loaded) → table_0_for va items ≡ Some t0 → leaf_for va items ≡ None → PagesHold m y (items ++ item kind va page ∷ []) (content_put (Some (512 * t0.page + pte_index 0 va)) (leaf_pte page perms) fp)
     leaf_pages kind perms fp off leaf part t0 up none =
         let kept = leaf_kept items root va page perms kind (word_in f) tables leaf part t0 up none in
         let entry : ℕ = leaf_pte page perms in
-        let g : Content = word_put (Some (512 * t0.page + pte_index 0 va)) entry fp in
+        let g : Content = content_put (Some (512 * t0.page + pte_index 0 va)) entry fp in
         let old : (o : ℕ) (t : Loaded) → IsTable (items ++ item kind va page ∷ []) o t → IsTable items o t = λ o t k. elim k [
           | inl e ↦ inl (sym (same_1_leaf items root va page perms kind (word_in f) tables leaf part t0 up none o) ∙ e)
           | inr e ↦ inr (sym (same_0_leaf items root va page perms kind (word_in f) tables leaf part t0 up none o) ∙ e)
@@ -235,7 +236,7 @@ module _ (m : Shape) (x y : Enclave) (items : List Loaded) (f : Content) (h : is
   table_at two one = cond two None (cond one (place_in_root x.root va) (place_in_table (table_1_for va items) 1 va))
 
   table_grown : (two one : Bool) → is_done (done_if (takes_page m x page && cond two (not (has_root x)) (in_range x va && has_root x) && (two || cond one (not (has_table_1 va items)) (has_table_1 va items && not (has_table_0 va items))))) ≡ true
-      → y.root ≡ cond two (Some page) x.root → Grown m x y (items ++ item (cond two kinds.Table2 (cond one kinds.Table1 kinds.Table0)) va page ∷ []) f (word_put (table_at two one) (pointer_pte page) f)
+      → y.root ≡ cond two (Some page) x.root → Grown m x y (items ++ item (cond two kinds.Table2 (cond one kinds.Table1 kinds.Table0)) va page ∷ []) f (content_put (table_at two one) (pointer_pte page) f)
   table_grown true one d root =
       let b = done_true _ d in
       let takes : takes_page m x page ≡ true = and_left (takes_page m x page) (not (has_root x)) (and_left _ true b) in
@@ -243,7 +244,7 @@ module _ (m : Shape) (x y : Enclave) (items : List Loaded) (f : Content) (h : is
       let mine : has_bit x.regions (region_of_page m page) ≡ true = and_right (is_next_page x page) _ takes in
       let none : x.root ≡ None = no_root x.root (and_right (takes_page m x page) (not (has_root x)) (and_left _ true b)) in
       let s = root_pages m x y items f (h tk.loading) (placed tk.loading) va page small tk.above same next (rootless none) mine root in
-      (pages_same m y _ f (word_put None (pointer_pte page) f) (λ i. link_none (pointer_pte page) f i) s, λ i. inl (link_none (pointer_pte page) f i))
+      (pages_same m y _ f (content_put None (pointer_pte page) f) (λ i. link_none (pointer_pte page) f i) s, λ i. inl (link_none (pointer_pte page) f i))
   table_grown false one d root =
       let b = done_true _ d in
       let first = and_left (takes_page m x page && (in_range x va && has_root x)) _ b in
@@ -254,31 +255,31 @@ module _ (m : Shape) (x y : Enclave) (items : List Loaded) (f : Content) (h : is
       by one (and_right (takes_page m x page && (in_range x va && has_root x)) _ b) tk mine r.0 r.1
     where
       by : (one : Bool) → cond one (not (has_table_1 va items)) (has_table_1 va items && not (has_table_0 va items)) ≡ true → Taken x page → has_bit x.regions (region_of_page m page) ≡ true → (r : ℕ) → x.root ≡ Some r
-          → Grown m x y (items ++ item (cond one kinds.Table1 kinds.Table0) va page ∷ []) f (word_put (cond one (place_in_root x.root va) (place_in_table (table_1_for va items) 1 va)) (pointer_pte page) f)
+          → Grown m x y (items ++ item (cond one kinds.Table1 kinds.Table0) va page ∷ []) f (content_put (cond one (place_in_root x.root va) (place_in_table (table_1_for va items) 1 va)) (pointer_pte page) f)
       by true b tk mine r is =
           let at = roots r is in
-          subst (λ z. Grown m x y (items ++ item kinds.Table1 va page ∷ []) f (word_put (place_in_root z va) (pointer_pte page) f)) (sym is) (
+          subst (λ z. Grown m x y (items ++ item kinds.Table1 va page ∷ []) f (content_put (place_in_root z va) (pointer_pte page) f)) (sym is) (
             one_pages m x y items f (h tk.loading) (placed tk.loading) va page small tk.above same next r is (root ∙ is) (omega (arith, at.below, tk.above)) (none_found _ items b) mine,
             link_within m x r (pte_index 2 va) _ f f (at.in_set tk.loading) (index_less 2 va) (λ i. inl refl),
           )
       by false b tk mine r is =
           let at = roots r is in
           let t1 = any_found (λ item. is_table_1 item.kind && is_there_for va item) items (and_left (has_table_1 va items) _ b) in
-          subst (λ z. Grown m x y (items ++ item kinds.Table0 va page ∷ []) f (word_put (place_in_table z 1 va) (pointer_pte page) f)) (sym t1.1) (
+          subst (λ z. Grown m x y (items ++ item kinds.Table0 va page ∷ []) f (content_put (place_in_table z 1 va) (pointer_pte page) f)) (sym t1.1) (
             zero_pages m x y items f (h tk.loading) (placed tk.loading) va page small tk.above same next r is (root ∙ is) (omega (arith, at.below, tk.above)) t1.0 t1.1 (none_found _ items (and_right (has_table_1 va items) _ b)) mine,
             link_within m x t1.0.page (pte_index 1 va) _ f f (table_inside m x items va t1.0 (placed tk.loading) (inl t1.1)).in_set (index_less 1 va) (λ i. inl refl),
           )
 
   leaf_grown : (kind : LoadedKind) (perms : ℕ) (fp : Content) → ((q j : ℕ) → q ≢ page → j < 512 → word_in fp q j ≡ word_in f q j) → (leaf : (is_leaf kind ≡ true) × (is_table_1 kind ≡ false) × (is_table_0 kind ≡ false)) → (part : (at : ℕ) → served_part kind at ≡ at / 2 ^ 12)
       → is_next_page x page ≡ true → leaf_fits x va ≡ true → has_place_for_leaf items va ≡ true → y.root ≡ x.root → (Within m x fp f)
-      → Grown m x y (items ++ item kind va page ∷ []) f (word_put (place_in_table (table_0_for va items) 0 va) (leaf_pte page perms) fp)
+      → Grown m x y (items ++ item kind va page ∷ []) f (content_put (place_in_table (table_0_for va items) 0 va) (leaf_pte page perms) fp)
   leaf_grown kind perms fp off leaf part nextp fits place root within =
       let tk = taken x page nextp in
       let r = is_there x.root (and_right (in_range x va) _ fits) in
       let at = roots r.0 r.1 in
       let both = and_left (has_table_1 va items && has_table_0 va items) _ place in
       let t0 = any_found (λ item. is_table_0 item.kind && is_there_for va item) items (and_right (has_table_1 va items) _ both) in
-      subst (λ z. Grown m x y (items ++ item kind va page ∷ []) f (word_put (place_in_table z 0 va) (leaf_pte page perms) fp)) (sym t0.1) (
+      subst (λ z. Grown m x y (items ++ item kind va page ∷ []) f (content_put (place_in_table z 0 va) (leaf_pte page perms) fp)) (sym t0.1) (
         leaf_pages m x y items f (h tk.loading) (placed tk.loading) va page small tk.above same next r.0 r.1 (root ∙ r.1) (omega (arith, at.below, tk.above)) kind perms fp off leaf part t0.0 t0.1 (none_found _ items (and_right (has_table_1 va items && has_table_0 va items) _ place)),
         link_within m x t0.0.page (pte_index 0 va) _ fp f (table_inside m x items va t0.0 (placed tk.loading) (inr t0.1)).in_set (index_less 0 va) within,
       )
@@ -331,7 +332,7 @@ load_content s f core _ ws digest k w facts h l d = absurd l
 -- ---- every call
 
 nothing_loaded : (s : State) (call : Call) (ws : List ℕ) (f : Content) (i : ℕ) → LoadsNothing call → content_by s call ws f i ≡ region_zeroed s.shape (emptied call) f i
-unfolding word_put
+unfolding content_put
 nothing_loaded s (calls.LoadTable e va level page) ws f i a = absurd a
 nothing_loaded s (calls.LoadPage e va page src perms) ws f i a = absurd a
 nothing_loaded s (calls.Reserve e va page perms) ws f i a = absurd a

@@ -13,8 +13,8 @@ use Rattle.mon_model.specs.Step.{reply_of}
 use Rattle.mon_model.proofs.Carried.{carried}
 use Rattle.mon_facts.specs.Facts.{FactsHold}
 use Rattle.sv39_pte.specs.Tables.{pte_index, leaf_pte}
-use Rattle.loaded_pages.specs.Content.{Content, place_in_table, word_put, page_put, region_zeroed, content_by, content_after}
-use Rattle.loaded_pages.specs.History.{words_of}
+use Rattle.loaded_pages.specs.Content.{Content, place_in_table, content_put, page_put, region_zeroed, content_by, content_after}
+use Rattle.loaded_pages.specs.History.{page_words_of}
 use Rattle.loaded_pages.proofs.Tables.{index_less}
 use Rattle.loaded_pages.proofs.Changes.{link_other, paste_in}
 use Rattle.loaded_pages.proofs.Stay.{table_inside}
@@ -31,7 +31,7 @@ word_loaded s core f ws e va page src perms facts d i few =
     let t0 = any_found (λ item. is_table_0 item.kind && is_there_for va item) items (and_right (has_table_1 va items) (has_table_0 va items) (and_left (has_table_1 va items && has_table_0 va items) _ ok.2)) in
     let inside = table_inside s.shape x items va t0.0 (facts.placed e tk.loading) (inr t0.1) in
     let g : Content = page_put page ws (region_zeroed s.shape None f) in
-    ap (λ z. word_put (place_in_table z 0 va) (leaf_pte page perms) g (512 * page + i)) t0.1
+    ap (λ z. content_put (place_in_table z 0 va) (leaf_pte page perms) g (512 * page + i)) t0.1
     ∙ link_other (512 * t0.0.page + pte_index 0 va) (leaf_pte page perms) g (512 * page + i) (λ q. absurd (let l = index_less 0 va in omega (arith, inside.below, tk.above, few, q, l)))
     ∙ paste_in page ws (region_zeroed s.shape None f) (512 * page + i) (let l = few in omega arith) ∙ ap (λ z. get_or ws z 0) (let l = few in let h : (512 * page + i) % 512 ≡ i = omega arith in h)
 
@@ -43,10 +43,10 @@ list_at g (w ∷ ws) a h =
     ∙ ap (λ xs. w ∷ xs) (list_at g ws (a + 1) (λ i lt. ap g {x = a + 1 + i} {y = a + suc i} (omega arith) ∙ h (suc i) (omega arith)))
 
 pub page_holds : (s : State) (f : Content) (core e va page src perms : ℕ) (ws : List ℕ) → FactsHold s → length ws ≡ 512 → is_done (reply_of s core (calls.LoadPage e va page src perms)) ≡ true
-    → words_of (content_after s (reply_of s core (calls.LoadPage e va page src perms)) (calls.LoadPage e va page src perms) ws f) page ≡ ws
+    → page_words_of (content_after s (reply_of s core (calls.LoadPage e va page src perms)) (calls.LoadPage e va page src perms) ws f) page ≡ ws
 unfolding content_after
 page_holds s f core e va page src perms ws facts count d =
-    ap (λ b. words_of (cond b (content_by s (calls.LoadPage e va page src perms) ws f) f) page) d
+    ap (λ b. page_words_of (cond b (content_by s (calls.LoadPage e va page src perms) ws f) f) page) d
     ∙ ap (λ n. map (λ j. content_by s (calls.LoadPage e va page src perms) ws f (512 * page + j)) (range_with_len 0 n)) (sym count)
     ∙ list_at (λ j. content_by s (calls.LoadPage e va page src perms) ws f (512 * page + j)) ws 0
     (λ i lt. ap (λ j. content_by s (calls.LoadPage e va page src perms) ws f (512 * page + j)) {x = 0 + i} {y = i} (omega arith) ∙ word_loaded s core f ws e va page src perms facts d i (omega (arith, count)))

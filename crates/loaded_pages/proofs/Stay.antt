@@ -20,7 +20,8 @@ use Rattle.dram_map.specs.Addresses.{region_of_word}
 use Rattle.sv39_pte.specs.Tables.{pte_index}
 use Rattle.mon_enclaves.specs.FromItems.{table_1_for, table_0_for}
 use Rattle.loaded_pages.specs.Content.{Content, region_zeroed}
-use Rattle.loaded_pages.specs.Facts.{is_idle, word_in, IsTable, TablesHold, PagesHold, ContentHolds}
+use Rattle.mon_model.specs.RegionStep.{is_idle}
+use Rattle.loaded_pages.specs.Facts.{word_in, IsTable, TablesHold, PagesHold, ContentHolds}
 use Rattle.loaded_pages.proofs.Cases.{clash, none_some, some_same}
 use Rattle.loaded_pages.proofs.Tables.{index_less}
 use Rattle.loaded_pages.proofs.Changes.{zeroed_in, same_word, page_home}

@@ -33,9 +33,9 @@ unfoldable pub page_put : ℕ → List ℕ → Content → Content
 page_put page words content i = if page_of_word i == page then slice_index words (i % page_words) else content i
 
 -- this word at a place, if one is named
-unfoldable pub word_put : Option ℕ → ℕ → Content → Content
-word_put None word content i = content i
-word_put (Some place) word content i = if place == i then word else content i
+unfoldable pub content_put : Option ℕ → ℕ → Content → Content
+content_put None word content i = content i
+content_put (Some place) word content i = if place == i then word else content i
 
 -- ---- what a call changes
 
@@ -82,7 +82,7 @@ page_loaded _ words content = content
 abbrev pub content_by : State → Call → List ℕ → Content → Content
 content_by s call words content =
     let zeroed = region_zeroed s.shape (emptied call) content in
-    word_put (loaded_place s call) (loaded_pte call) (page_loaded call words zeroed)
+    content_put (loaded_place s call) (loaded_pte call) (page_loaded call words zeroed)
 
 -- after any reply; a refusal, and a held lock that was met, change nothing
 unfoldable pub content_after : State → Reply → Call → List ℕ → Content → Content

@@ -1,25 +1,17 @@
 -- What holds of the content in every state: zeros where no enclave has loaded, and in the tables of a Loading enclave
 -- the ptes of its items. This project's own.
-use Rattle.std.specs.Prelude.{◌≡◌, ◌≢◌, ◌⊎◌, ℕ, ◌+◌, ◌/◌, ◌^◌, ◌<◌, ◌≤◌, Bool, true, false, List, Some, is_some}
+use Rattle.std.specs.Prelude.{◌≡◌, ◌≢◌, ◌⊎◌, ℕ, ◌+◌, ◌/◌, ◌^◌, ◌<◌, ◌≤◌, true, List, Some, is_some}
 use Rattle.mon_types.specs.Bits.{has_bit}
 use Rattle.mon_types.specs.Shape.{Shape, region_of_page}
-use Rattle.mon_types.specs.declared.region.Region.{Region}
-use Rattle.mon_types.specs.declared.region.Region.TheVariants as regions
 use Rattle.mon_types.specs.declared.enclave.Enclave.{Enclave}
 use Rattle.mon_types.specs.declared.enclave.Loaded.{Loaded}
 use Rattle.mon_model.specs.State.{State, region_at, enclave_at, loaded_at}
 use Rattle.mon_model.specs.RegionCalls.{is_loading}
+use Rattle.mon_model.specs.RegionStep.{is_idle}
 use Rattle.dram_map.specs.Addresses.{page_words, first_word, region_of_word}
 use Rattle.sv39_pte.specs.Tables.{pte_index}
 use Rattle.mon_enclaves.specs.FromItems.{table_1_for, table_0_for, leaf_for, pte_of_table, pte_of_leaf}
 use Rattle.loaded_pages.specs.Content.{Content}
-
--- nobody has the region: it is Free, or Offered and not accepted yet
-abbrev pub is_idle : Region → Bool
-is_idle regions.Free = true
-is_idle (regions.Owned owner since) = false
-is_idle (regions.Blocked owner since at) = false
-is_idle (regions.Offered to at) = true
 
 -- a word by its page and its place in it
 abbrev pub word_in : Content → ℕ → ℕ → ℕ

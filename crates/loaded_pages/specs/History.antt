@@ -35,8 +35,8 @@ abbrev pub content_at : Shape → List (List Event) → List (List ℕ) → ℕ 
 content_at shape logs answers k = content_from answers (start shape) (take k (history logs)) zero_content
 
 -- the words of a page
-abbrev pub words_of : Content → ℕ → List ℕ
-words_of content page = map (λ j. content (first_word page + j)) (range_with_len 0 page_words)
+abbrev pub page_words_of : Content → ℕ → List ℕ
+page_words_of content page = map (λ j. content (first_word page + j)) (range_with_len 0 page_words)
 
 -- whether slot e has a Loading enclave to whose set the page's region belongs
 abbrev pub is_page_of : State → ℕ → ℕ → Bool
@@ -48,7 +48,7 @@ is_page_of s e page =
 abbrev pub loaded_page : Shape → List (List Event) → List (List ℕ) → ℕ → ℕ → ℕ → Option (List ℕ)
 loaded_page shape logs answers k e page =
     if is_page_of (state_after shape logs k) e page
-    then Some (words_of (content_at shape logs answers k) page)
+    then Some (page_words_of (content_at shape logs answers k) page)
     else None
 
 -- the digest of an entry's page is that of the words that it read

@@ -19,7 +19,7 @@ use Rattle.dram_map.specs.Addresses.{page_words}
 use Rattle.mon_enclaves.specs.FromItems.{table_words, leaf_words}
 use Rattle.mon_enclaves.specs.LoadReply.{words_reply}
 use Rattle.loaded_pages.specs.Content.{Content, zero_content, loaded_place, content_after}
-use Rattle.loaded_pages.specs.History.{content_at, words_of}
+use Rattle.loaded_pages.specs.History.{content_at, page_words_of}
 use Rattle.loaded_pages.specs.Path.{words_below, call_places, call_words, last_place}
 use Rattle.loaded_pages.specs.Facts.{ContentHolds}
 
@@ -103,4 +103,4 @@ PageHoldsWords =
     → length words ≡ page_words
     → let call = calls.LoadPage e va page src perms in
       is_done (reply_of s core call) ≡ true
-    → words_of (content_after s (reply_of s core call) call words content) page ≡ words
+    → page_words_of (content_after s (reply_of s core call) call words content) page ≡ words

@@ -29,9 +29,9 @@ use Rattle.lock_plan.specs.Plan.{first_region, first_enclave}
 use Rattle.lock_plan.specs.Records.{records_of}
 use Rattle.mon_calls.specs.OnHeld.{second_enclave, tickets_held}
 use Rattle.mon_calls.specs.Replied.{replied}
-use Rattle.mon_calls.specs.Decided.{AreWords, IsReply}
+use Rattle.mon_calls.specs.Decided.{ArePathWords, IsReply}
 use Rattle.mon_calls.specs.OnCore.{core_change, IsChange}
-use Rattle.core_context.specs.Changes.{change_of}
+use Rattle.core_context.specs.Changes.{ok_change}
 
 -- ---- records by their places
 
@@ -93,7 +93,7 @@ target_said s own to false false same = refl
 
 -- ---- every call
 
-pub said : (s : State) (core : ℕ) (call : Call) (words : List ℕ) → is_shape s.shape ≡ true → IsWhole s → AreWords s call words → early s.shape (mode_of s core) call ≡ None
+pub said : (s : State) (core : ℕ) (call : Call) (words : List ℕ) → is_shape s.shape ≡ true → IsWhole s → ArePathWords s call words → early s.shape (mode_of s core) call ≡ None
     → replied s.shape (mode_of s core) call (records_of s (held_tries s core call)) words ≡ held_reply s core call
 said s core (calls.Block r) words valid w given none = ap (block_reply (mode_of s core)) (region_said s (mode_of s core) r)
 said s core (calls.Free r) words valid w given none = free_said s s.shape.cores r (region_at s r) refl w.flushed
@@ -126,7 +126,7 @@ is_reply shape core mode call held words valid none s has given =
 
 -- ---- what Ok does to the core
 
-change_said : (s : State) (core : ℕ) (call : Call) → core_change call (records_of s (held_tries s core call)) ≡ change_of s core call
+change_said : (s : State) (core : ℕ) (call : Call) → core_change call (records_of s (held_tries s core call)) ≡ ok_change s core call
 change_said s core calls.Flush = refl
 change_said s core _ = refl
 

@@ -18,14 +18,14 @@ use Rattle.lock_plan.specs.Records.{records_of}
 
 -- In state s these are all words of page tables that a call which loads reads on its address's path; other calls read
 -- none.
-abbrev pub AreWords : State → Call → List ℕ → Type 0
-AreWords s (calls.LoadTable e va level page) words =
+abbrev pub ArePathWords : State → Call → List ℕ → Type 0
+ArePathWords s (calls.LoadTable e va level page) words =
     StandInPages s.shape (loaded_at s e) × (words ≡ table_words (loaded_at s e) va level)
-AreWords s (calls.LoadPage e va page src perms) words =
+ArePathWords s (calls.LoadPage e va page src perms) words =
     StandInPages s.shape (loaded_at s e) × ((given : ℕ) × (words ≡ leaf_words (loaded_at s e) va given))
-AreWords s (calls.Reserve e va page perms) words =
+ArePathWords s (calls.Reserve e va page perms) words =
     StandInPages s.shape (loaded_at s e) × ((given : ℕ) × (words ≡ leaf_words (loaded_at s e) va given))
-AreWords s _ words = ⊤
+ArePathWords s _ words = ⊤
 
 -- State s is one of this machine with the core in this mode, and these are the records there of all that the call tries.
 pub record HasRecords (shape : Shape) (core : ℕ) (mode : Mode) (call : Call) (held : Held) (s : State) : Type 0 where
@@ -37,7 +37,7 @@ pub record HasRecords (shape : Shape) (core : ℕ) (mode : Mode) (call : Call) (
 -- In every state that has these records and gives these words, the answer is the call's reply.
 abbrev pub IsReply : Shape → ℕ → Mode → Call → Held → List ℕ → Reply → Type 0
 IsReply shape core mode call held words answer =
-    (s : State) → HasRecords shape core mode call held s → AreWords s call words → answer ≡ reply_of s core call
+    (s : State) → HasRecords shape core mode call held s → ArePathWords s call words → answer ≡ reply_of s core call
 
 -- In every state that has these records, where the call answers Ok, the new ones are the records of the same objects
 -- after it, at ticket k. digest is that of the page that a load_page reads.

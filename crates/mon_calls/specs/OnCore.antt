@@ -7,7 +7,7 @@ use Rattle.mon_model.specs.Early.{early}
 use Rattle.mon_model.specs.Tries.{tries}
 use Rattle.core_context.specs.declared.after.After.{After}
 use Rattle.core_context.specs.declared.after.After.TheVariants as afters
-use Rattle.core_context.specs.Changes.{entering, change_of}
+use Rattle.core_context.specs.Changes.{entering, ok_change}
 use Rattle.lock_plan.specs.declared.held.Held.{Held}
 use Rattle.lock_plan.specs.Plan.{first_enclave}
 use Rattle.lock_plan.specs.Records.{records_of}
@@ -27,4 +27,4 @@ core_change _ h = afters.Nothing
 abbrev pub IsChange : Call → Held → After → Type 0
 IsChange call held answer =
     (s : State) (core : ℕ) → early s.shape (mode_of s core) call ≡ None → held ≡ records_of s (tries s core call)
-    → answer ≡ change_of s core call
+    → answer ≡ ok_change s core call

@@ -17,9 +17,9 @@ named_sender (calls.Accept m from) = from
 named_sender _ = 0
 
 -- the four words of a send
-abbrev pub named_words : Call → List ℕ
-named_words (calls.Send to m w0 w1 w2 w3) = w0 ∷ w1 ∷ w2 ∷ w3 ∷ []
-named_words _ = []
+abbrev pub message_named : Call → List ℕ
+message_named (calls.Send to m w0 w1 w2 w3) = w0 ∷ w1 ∷ w2 ∷ w3 ∷ []
+message_named _ = []
 
 -- the sender's record: that of the target where no other is given, since an enclave may send to itself
 abbrev pub sender_of : Option Enclave → Enclave → Enclave

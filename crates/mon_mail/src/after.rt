@@ -3,7 +3,7 @@
 ghost use Rattle.std.specs.Prelude.{◌≡◌};
 ghost use Rattle.std.specs.Option.{option_copied};
 ghost use Rattle.mon_model.specs.MailCalls.{with_mailbox, sent};
-ghost use Rattle.mon_mail.specs.Named.{named_mailbox, named_sender, named_words, sender_of, IsAccept, IsSend, IsRead};
+ghost use Rattle.mon_mail.specs.Named.{named_mailbox, named_sender, message_named, sender_of, IsAccept, IsSend, IsRead};
 
 use mon_types::{Call, Enclave, Mailbox};
 
@@ -24,7 +24,7 @@ pub fn after_accept(ticket: u32, call: &Call, enclave: &mut Enclave)
 /// is the target.
 pub fn after_send(ticket: u32, call: &Call, own: u8, sender: Option<&Enclave>, target: &mut Enclave)
     requires { IsSend call.now }
-    ensures { target.new ≡ with_mailbox target.old (named_mailbox call.now) (sent own (named_words call.now) (sender_of (option_copied sender.entry) target.old).measure) }
+    ensures { target.new ≡ with_mailbox target.old (named_mailbox call.now) (sent own (message_named call.now) (sender_of (option_copied sender.entry) target.old).measure) }
 {
     let Call::Send {
         m,

@@ -1,5 +1,5 @@
 -- What stands at a place of a table after a write at another, by whether they are one place.
-use Rattle.std.proofs.Common.{◌≡◌, ℕ, zero, suc, ◌<◌, Bool, true, false, ◌==◌, List, [], ◌∷◌, length, get_or, refl, sym, ap, subst, ◌∙◌, inl, inr}
+use Rattle.std.proofs.Common.{◌≡◌, ◌⊎◌, ℕ, zero, suc, ◌<◌, Bool, true, false, ◌==◌, List, [], ◌∷◌, length, get_or, refl, sym, ap, subst, ◌∙◌, inl, inr}
 use Rattle.std.proofs.Math.ListN.{set}
 use Rattle.std.proofs.lemmas.List.{get_or-set_same, get_or-set_other}
 use Rattle.std.proofs.lemmas.Bool.{cases_eq, eq-eqb, ne_eqb}
@@ -24,3 +24,11 @@ at_any P (x ∷ xs) zero zero v d one apart = one refl
 at_any P (x ∷ xs) zero (suc r) v d one apart = apart
 at_any P (x ∷ xs) (suc q) zero v d one apart = apart
 at_any P (x ∷ xs) (suc q) (suc r) v d one apart = at_any P xs q r v d (λ e. one (ap suc e)) apart
+
+-- what a list has at j once x was put at i
+pub at_set : {X : Type 0} (xs : List X) (i j : ℕ) (x d : X) → ((j ≡ i) × (get_or (set xs i x) j d ≡ x)) ⊎ (get_or (set xs i x) j d ≡ get_or xs j d)
+at_set [] i j x d = inr refl
+at_set (y ∷ ys) zero zero x d = inl (refl, refl)
+at_set (y ∷ ys) zero (suc j) x d = inr refl
+at_set (y ∷ ys) (suc i) zero x d = inr refl
+at_set (y ∷ ys) (suc i) (suc j) x d = elim (at_set ys i j x d) [ inl h ↦ inl (ap suc h.0, h.1) | inr e ↦ inr e ]

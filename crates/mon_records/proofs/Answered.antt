@@ -31,9 +31,11 @@ use Rattle.mon_model.specs.Step.{reply_of, held_reply, after, effect, without_ow
 use Rattle.mon_model.specs.Tries.{tries, held_tries, free_tries}
 use Rattle.mon_model.proofs.Bits.{none-has, with-other, without-same, without-other}
 use Rattle.mon_facts.specs.Facts.{FactsHold, is_owned_by}
-use Rattle.mon_records.specs.Answers.{is_idle, AnswersFor, Answers, freed_by, freed}
+use Rattle.mon_model.specs.RegionStep.{is_idle}
+use Rattle.mon_records.specs.Answers.{AnswersFor, Answers, freed_where_ok, freed}
 use Rattle.mon_records.specs.AnswerLaws.{WasAnswered, IsFreed}
-use Rattle.mon_records.proofs.Members.{In, contains_in, in_contains, at_set}
+use Rattle.mon_model.proofs.Writes.{at_set}
+use Rattle.mon_records.proofs.Members.{In, contains_in, in_contains}
 use Rattle.mon_records.proofs.OkCalls.{done_held, tries_held}
 use Rattle.mon_records.proofs.Early.{if_free, behind_own}
 
@@ -232,7 +234,7 @@ after_answers s core call digest k o r a = by_done (is_done (reply_of s core cal
 
 -- ---- the laws
 
-is_freed : (b : Bool) (call : Call) (r : ℕ) → b ≡ true → Freed call r → cond b (freed_by call) None ≡ Some r
+is_freed : (b : Bool) (call : Call) (r : ℕ) → b ≡ true → Freed call r → cond b (freed_where_ok call) None ≡ Some r
 is_freed true (calls.Free q) r d f = ap Some f
 is_freed true _ r d f = absurd f
 is_freed false call r d f = absurd (cc)
@@ -287,7 +289,7 @@ none_some e = cc
 some_same : {q r : ℕ} → Some q ≡ Some r → q ≡ r
 some_same e = cc
 
-freed_is : (b : Bool) (call : Call) (r : ℕ) → cond b (freed_by call) None ≡ Some r → (b ≡ true) × (call ≡ calls.Free r)
+freed_is : (b : Bool) (call : Call) (r : ℕ) → cond b (freed_where_ok call) None ≡ Some r → (b ≡ true) × (call ≡ calls.Free r)
 freed_is true (calls.Free q) r e = (refl, ap (λ z. calls.Free z) (some_same e))
 freed_is true _ r e = absurd (none_some e)
 freed_is false call r e = absurd (none_some e)

@@ -26,7 +26,8 @@ use Rattle.mon_model.specs.Step.{reply_of, held_reply, after, effect, assignee, 
 use Rattle.mon_model.specs.Tries.{tries, held_tries, own_enclave}
 use Rattle.mon_records.specs.EarlyWords.{ReadsOwned, withdrawn_word, withdrawn_words, early_words}
 use Rattle.mon_records.specs.EarlyLaws.{early_regions}
-use Rattle.mon_records.proofs.Members.{In, in_contains, in_append, at_set}
+use Rattle.mon_model.proofs.Writes.{at_set}
+use Rattle.mon_records.proofs.Members.{In, in_contains, in_append}
 use Rattle.mon_records.proofs.OkCalls.{done_held, tries_held}
 
 -- ---- words that do not read Owned

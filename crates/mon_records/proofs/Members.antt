@@ -1,6 +1,7 @@
 -- Members of a list by recursion, and what a list has at a number.
 use Rattle.std.proofs.Common.{◌≡◌, ◌⊎◌, inl, inr, ◌<◌, ◌∙◌, ℕ, zero, suc, List, [], ◌∷◌, ◌++◌, length, map, ap, sym, refl, subst, get_or, set, arith}
 use Rattle.std.specs.List.{Contains}
+use Rattle.mon_model.proofs.Writes.{at_set}
 
 -- x is in the list
 abbrev pub In : {X : Type 0} → X → List X → Type 0
@@ -28,14 +29,6 @@ in_append (z ∷ zs) ys x h = elim h [
   | inl m ↦ elim m [ inl e ↦ inl e | inr n ↦ inr (in_append zs ys x (inl n)) ]
   | inr m ↦ inr (in_append zs ys x (inr m))
 ]
-
--- what a table has at a number once one number was set
-pub at_set : {X : Type 0} (xs : List X) (i j : ℕ) (x d : X) → ((j ≡ i) × (get_or (set xs i x) j d ≡ x)) ⊎ (get_or (set xs i x) j d ≡ get_or xs j d)
-at_set [] i j x d = inr refl
-at_set (y ∷ ys) zero zero x d = inl (refl, refl)
-at_set (y ∷ ys) zero (suc j) x d = inr refl
-at_set (y ∷ ys) (suc i) zero x d = inr refl
-at_set (y ∷ ys) (suc i) (suc j) x d = elim (at_set ys i j x d) [ inl h ↦ inl (ap suc h.0, h.1) | inr e ↦ inr e ]
 
 -- where all have it, all have it once one that has it was set
 pub all_set : {X : Type 0} (P : X → Type 0) (xs : List X) (i : ℕ) (x d : X) → P x → ((j : ℕ) → P (get_or xs j d)) → (j : ℕ) → P (get_or (set xs i x) j d)

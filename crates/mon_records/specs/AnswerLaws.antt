@@ -8,7 +8,8 @@ use Rattle.mon_model.specs.State.{State, region_at}
 use Rattle.mon_model.specs.Step.{reply_of, after}
 use Rattle.mon_model.specs.Tries.{tries}
 use Rattle.mon_facts.specs.Facts.{FactsHold}
-use Rattle.mon_records.specs.Answers.{Answers, is_idle, freed}
+use Rattle.mon_model.specs.RegionStep.{is_idle}
+use Rattle.mon_records.specs.Answers.{Answers, freed}
 
 -- one object at most answers for a region
 abbrev pub OneAnswers : Type 0

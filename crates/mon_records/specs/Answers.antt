@@ -1,9 +1,7 @@
 -- Who answers for the words of a region: no core may change them that does not hold this object. This project's own.
-use Rattle.std.specs.Prelude.{◌≡◌, ℕ, Bool, true, false, if◌then◌else◌, Option, Some, None}
+use Rattle.std.specs.Prelude.{◌≡◌, ℕ, true, if◌then◌else◌, Option, Some, None}
 use Rattle.mon_types.specs.Bits.{has_bit}
 use Rattle.mon_types.specs.Replies.{is_done}
-use Rattle.mon_types.specs.declared.region.Region.{Region}
-use Rattle.mon_types.specs.declared.region.Region.TheVariants as regions
 use Rattle.mon_types.specs.declared.call.Call.{Call}
 use Rattle.mon_types.specs.declared.call.Call.TheVariants as calls
 use Rattle.mon_types.specs.declared.reply.Reply.{Reply}
@@ -11,13 +9,7 @@ use Rattle.mon_types.specs.declared.object.ObjectId.{ObjectId}
 use Rattle.mon_types.specs.declared.object.ObjectId.TheVariants as objects
 use Rattle.mon_model.specs.State.{State, region_at, enclave_at}
 use Rattle.mon_model.specs.RegionCalls.{is_loading}
-
--- nobody has the region, or it is only offered: it holds zeros
-abbrev pub is_idle : Region → Bool
-is_idle regions.Free = true
-is_idle (regions.Owned owner since) = false
-is_idle (regions.Blocked owner since at) = false
-is_idle (regions.Offered to at) = true
+use Rattle.mon_model.specs.RegionStep.{is_idle}
 
 -- an enclave slot answers for the regions of its set as long as its enclave is Loading, and an idle region for itself
 abbrev pub AnswersFor : State → ObjectId → ℕ → Type 0
@@ -32,10 +24,10 @@ pub record Answers (s : State) (o : ObjectId) (r : ℕ) : Type 0 where
   pub is : AnswersFor s o r
 
 -- the region that a call frees where it is Ok
-abbrev pub freed_by : Call → Option ℕ
-freed_by (calls.Free r) = Some r
-freed_by _ = None
+abbrev pub freed_where_ok : Call → Option ℕ
+freed_where_ok (calls.Free r) = Some r
+freed_where_ok _ = None
 
 -- the region that a call with this reply frees
 unfoldable pub freed : Reply → Call → Option ℕ
-freed reply call = if is_done reply then freed_by call else None
+freed reply call = if is_done reply then freed_where_ok call else None

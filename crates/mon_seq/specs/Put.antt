@@ -26,16 +26,16 @@ with_held s h = record s {
 
 -- The items of the enclave slot that the call names, after Ok: one more of a call that loads, none of a create or a
 -- delete.
-abbrev pub items_after : Call → List Loaded → List Loaded
-items_after (calls.Create e base size) items = []
-items_after (calls.LoadTable e va level page) items =
+abbrev pub items_by_call : Call → List Loaded → List Loaded
+items_by_call (calls.Create e base size) items = []
+items_by_call (calls.LoadTable e va level page) items =
     items ++ record { kind = table_kind level; va = va; page = page } ∷ []
-items_after (calls.LoadPage e va page src perms) items =
+items_by_call (calls.LoadPage e va page src perms) items =
     items ++ record { kind = kinds.Page; va = va; page = page } ∷ []
-items_after (calls.Delete e) items = []
-items_after (calls.Reserve e va page perms) items =
+items_by_call (calls.Delete e) items = []
+items_by_call (calls.Reserve e va page perms) items =
     items ++ record { kind = kinds.Reserved; va = va; page = page } ∷ []
-items_after _ items = items
+items_by_call _ items = items
 
 -- the slot whose items the call changes, None of the other calls
 abbrev pub loading_slot : Call → Option ℕ
@@ -53,7 +53,7 @@ with_items (Some e) change loaded = slice_set loaded e (change (slice_index_or l
 
 -- the items of all slots after Ok
 abbrev pub loaded_after : Call → List (List Loaded) → List (List Loaded)
-loaded_after call loaded = with_items (loading_slot call) (items_after call) loaded
+loaded_after call loaded = with_items (loading_slot call) (items_by_call call) loaded
 
 -- there is room for one more item in the slot of a call that loads
 abbrev pub HasRoomFor : State → Call → Type 0

@@ -9,7 +9,7 @@ ghost use Rattle.mon_model.specs.Step.{reply_of, after};
 ghost use Rattle.mon_model.specs.Tries.{tries, tried_set};
 ghost use Rattle.mon_facts.specs.Tables.{AreTables};
 ghost use Rattle.lock_plan.specs.Records.{nothing_held, records_of};
-ghost use Rattle.mon_calls.specs.Decided.{AreWords};
+ghost use Rattle.mon_calls.specs.Decided.{ArePathWords};
 ghost use Rattle.mon_seq.specs.Begun.{begun_in};
 
 use crate::begun::{Begun, nothing_tried};
@@ -33,7 +33,7 @@ impl Board {
     fn ptes_of(&self, call: &Call) -> ArrayVec<u64, 3>
         requires tables { AreTables self.now }
         requires arguments { IsInRange self.now.shape call.now }
-        ensures { AreWords self.now call.now result.items }
+        ensures { ArePathWords self.now call.now result.items }
     {
         match *call {
             Call::LoadTable { e, va, level, .. } => {

@@ -19,9 +19,9 @@ named_sp (calls.LoadThread e t entry sp) = sp
 named_sp _ = 0
 
 -- the words that an aex saves
-abbrev pub named_words : Call → List ℕ
-named_words (calls.Aex saved) = saved
-named_words _ = []
+abbrev pub saved_named : Call → List ℕ
+saved_named (calls.Aex saved) = saved
+saved_named _ = []
 
 -- a load_thread into an enclave slot
 abbrev pub IsLoadThread : Call → Type 0

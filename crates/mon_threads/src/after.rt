@@ -3,7 +3,7 @@
 ghost use Rattle.std.specs.Prelude.{◌≡◌};
 ghost use Rattle.mon_types.specs.Threads.{empty_thread};
 ghost use Rattle.mon_model.specs.ThreadCalls.{ready, with_thread_loaded, without_thread, running, stopped, left, left_saving, restored};
-ghost use Rattle.mon_threads.specs.Named.{named_slot, named_entry, named_sp, named_words, IsLoadThread, IsEnter, IsAex};
+ghost use Rattle.mon_threads.specs.Named.{named_slot, named_entry, named_sp, saved_named, IsLoadThread, IsEnter, IsAex};
 
 use mon_measure::{Item, measure_with};
 use mon_types::{Call, Enclave, Thread, ThreadState};
@@ -72,7 +72,7 @@ pub fn after_exit(ticket: u32, call: &Call, thread: &mut Thread)
 /// at the ticket. The state of a thread that does not run stays as it is.
 pub fn after_aex(ticket: u32, call: &Call, thread: &mut Thread)
     requires { IsAex call.now }
-    ensures { thread.new ≡ left_saving thread.old (named_words call.now) ticket }
+    ensures { thread.new ≡ left_saving thread.old (saved_named call.now) ticket }
 {
     let Call::Aex { saved } = *call else {
         unreachable!()

@@ -21,7 +21,8 @@ use Rattle.script_read.specs.declared.fault.LineKind.TheVariants as kinds
 use Rattle.script_read.specs.declared.fault.ScriptFault.TheVariants as faults
 use Rattle.script_read.specs.Text.{is_blank, before_comment, words_of}
 use Rattle.script_read.specs.Numbers.{IsDigit, AreDigits, IsDecimal, IsHexadecimal, IsNumber, with_bytes, number_of}
-use Rattle.script_read.specs.Forms.{os_word, form_name, least, most, takes_os, form_line, form_named, is_later_word}
+use Rattle.mon_types.specs.Owns.{os_word}
+use Rattle.script_read.specs.Forms.{form_name, least, most, takes_os, form_line, form_named, is_later_word}
 use Rattle.script_read.specs.Grammar.{IsFirstWord, AreWords, is_owner_place, IsArgument, AreArguments, AreNumbers, IsCallLine, IsEcallLine, IsPcLine, IsRegLine, StandsFor, IsLine}
 use Rattle.script_read.specs.Reading.{argument_of, arguments_of, with_zeros, line_with, form_read, at_line, line_in, line_of_words, line_of}
 use Rattle.script_read.proofs.NumberLaws.{number_is, number_found}

@@ -8,10 +8,6 @@ use Rattle.mon_types.specs.declared.script.Line.TheVariants as lines
 use Rattle.script_read.specs.declared.form.Form.{Form}
 use Rattle.script_read.specs.declared.form.Form.TheVariants as forms
 
--- the number that stands for the OS as an owner of a region
-abbrev pub os_word : ℕ
-os_word = 2 ^ 64 - 1
-
 -- the word that begins a line of the form
 unfoldable pub form_name : Form → List ℕ
 form_name (forms.Named number arity) = call_name (call_of number 0 0 0 0 0 0)

@@ -9,7 +9,7 @@ use Rattle.mon_types.specs.declared.script.Line.{Line}
 use Rattle.mon_types.specs.declared.script.Line.TheVariants as lines
 use Rattle.script_read.specs.Text.{is_in_line, ends_in_return, is_plain, is_blank, is_letter}
 use Rattle.script_read.specs.Numbers.{IsNumber}
-use Rattle.script_read.specs.Forms.{os_word}
+use Rattle.mon_types.specs.Owns.{os_word}
 
 -- ---- words
 

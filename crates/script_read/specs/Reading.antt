@@ -13,7 +13,8 @@ use Rattle.script_read.specs.declared.fault.ScriptFault.TheVariants as faults
 use Rattle.script_read.specs.Text.{lines_of, before_comment, words_of}
 use Rattle.script_read.specs.Numbers.{number_of}
 use Rattle.script_read.specs.Grammar.{limit, for_cores}
-use Rattle.script_read.specs.Forms.{os_word, least, most, takes_os, form_line, form_named, is_later_word}
+use Rattle.mon_types.specs.Owns.{os_word}
+use Rattle.script_read.specs.Forms.{least, most, takes_os, form_line, form_named, is_later_word}
 
 -- the number that an argument stands for
 abbrev pub argument_of : Form → ℕ → List ℕ → Option ℕ

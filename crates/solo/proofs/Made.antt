@@ -11,7 +11,7 @@ use Rattle.hist.specs.declared.event.Event.TheVariants as events
 use Rattle.hist.specs.History.{digest_of}
 use Rattle.dram_map.specs.Words.{word_at}
 use Rattle.core_context.specs.declared.after.After.TheVariants as afters
-use Rattle.core_context.specs.Changes.{change_of, changed}
+use Rattle.core_context.specs.Changes.{ok_change, contexts_after}
 use Rattle.solo.specs.Solo.{Core, pte_places, source_words, page_input, stored, leaving_of, called}
 use Rattle.solo.proofs.Done.{digest_is}
 
@@ -24,7 +24,7 @@ pub record HasParts (c : Core) (call : Call) (places : List ℕ) (page : Option 
   pub objects : tried ≡ tried_set (tries c.state 0 call)
   pub state : d.state ≡ after c.state 0 call (digest_of page) (c.made + 1)
   pub made : d.made ≡ c.made + 1
-  pub contexts : d.contexts ≡ changed c.contexts (change_of c.state 0 call) (leaving_of call)
+  pub contexts : d.contexts ≡ contexts_after c.contexts (ok_change c.state 0 call) (leaving_of call)
   pub words : d.words ≡ stored c.state.shape call places c.words
   pub answers : d.answers ≡ c.answers ++ map (word_at c.words) places ++ source_words c.words call
   pub log : d.log ≡ c.log ++ events.Entry record { ticket = c.made + 1; core = 0; serial = c.made; call = call; page = page; reply = reply; tried = tried } ∷ []
@@ -36,7 +36,7 @@ made_so c call places page reply tried d p =
     let state : d.state ≡ (called c call).state =
     p.state ∙ ap (λ (i : Option PageInput). after c.state 0 call (digest_of i) (c.made + 1)) p.told ∙ ap (λ (digest : List ℕ). after c.state 0 call digest (c.made + 1)) (digest_is c.words call at) in
     let contexts : d.contexts ≡ (called c call).contexts =
-    p.contexts ∙ sym (ap (λ (b : Bool). changed c.contexts (cond b (change_of c.state 0 call) afters.Nothing) (leaving_of call)) p.ok) in
+    p.contexts ∙ sym (ap (λ (b : Bool). contexts_after c.contexts (cond b (ok_change c.state 0 call) afters.Nothing) (leaving_of call)) p.ok) in
     let words : d.words ≡ (called c call).words =
     p.words ∙ ap (λ (l : List ℕ). stored c.state.shape call l c.words) p.path ∙ sym (ap (λ (b : Bool). cond b (stored c.state.shape call (pte_places c call) c.words) c.words) p.ok) in
     let answers : d.answers ≡ (called c call).answers =

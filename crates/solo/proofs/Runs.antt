@@ -24,8 +24,8 @@ use Rattle.mon_model.specs.OnCore.{is_load_page}
 use Rattle.hist.specs.Legal.{AreTickets, AreOwn, AreLegalEntries, IsLegalEntry}
 use Rattle.hist.proofs.Growing.{tickets_more, own_more, legal_more, after_more}
 use Rattle.mon_types.specs.Budgets.{tick_cause}
-use Rattle.solo.specs.Solo.{Core, core_start, mode_now, pte_places, page_input, digest_for, entry_of, called, ticked, pc_set, reg_set, core_after, is_spent, stopped, core_from}
-use Rattle.core_context.specs.Registers.{saved_words}
+use Rattle.solo.specs.Solo.{Core, core_start, mode_now, pte_places, page_input, digest_for, entry_of, called, tick_made, pc_set, reg_set, core_after, is_spent, stopped_at, core_from}
+use Rattle.core_context.specs.Registers.{saved_context}
 
 -- ---- one call
 
@@ -104,9 +104,9 @@ after_event shape c event none h =
 
 -- ---- the lines of a script
 
-after_tick : (shape : Shape) (mode : Mode) (c : Core) → HasHistory shape c → HasHistory shape (ticked mode c)
+after_tick : (shape : Shape) (mode : Mode) (c : Core) → HasHistory shape c → HasHistory shape (tick_made mode c)
 after_tick shape modes.Os c h = h
-after_tick shape (modes.Inside e t) c h = after_call shape c (calls.Aex (saved_words c.contexts.current tick_cause)) h
+after_tick shape (modes.Inside e t) c h = after_call shape c (calls.Aex (saved_context c.contexts.current tick_cause)) h
 
 after_pc : (shape : Shape) (mode : Mode) (c : Core) (pc : ℕ) → HasHistory shape c → HasHistory shape (pc_set mode c pc)
 after_pc shape modes.Os c pc h = h
@@ -134,7 +134,7 @@ after_lines : (shape : Shape) (c : Core) (n : ℕ) (script : List Line) → HasH
 unfolding core_from
 after_lines shape c n [] h = h
 after_lines shape c n (line ∷ rest) h =
-    chosen (HasHistory shape) (is_spent c) (stopped c n) (core_from (core_after c line) (n + 1) rest)
+    chosen (HasHistory shape) (is_spent c) (stopped_at c n) (core_from (core_after c line) (n + 1) rest)
     (after_event shape c (events.Stop n whys.Limit) refl h) (after_lines shape (core_after c line) (n + 1) rest (after_line shape c line h))
 
 pub has_history : (shape : Shape) (first : Start) (script : List Line) → HasHistory shape (core_from (core_start shape first) 1 script)

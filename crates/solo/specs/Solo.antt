@@ -28,8 +28,8 @@ use Rattle.core_context.specs.declared.context.Context.{Context}
 use Rattle.core_context.specs.declared.contexts.Contexts.{Contexts}
 use Rattle.core_context.specs.declared.contexts.Leaving.{Leaving}
 use Rattle.core_context.specs.declared.contexts.Leaving.TheVariants as leavings
-use Rattle.core_context.specs.Registers.{with_register, saved_words}
-use Rattle.core_context.specs.Changes.{after_call, begun_contexts, changed}
+use Rattle.core_context.specs.Registers.{with_register, saved_context}
+use Rattle.core_context.specs.Changes.{change_after, begun_contexts, contexts_after}
 use Rattle.mon_types.specs.Budgets.{event_budget, answer_budget, line_events, line_answers, tick_cause}
 use Rattle.dram_map.specs.Words.{word_at, zero_words, words_of_page, page_copied, region_cleared}
 use Rattle.sv39_pte.specs.Tables.{pointer_pte, leaf_pte}
@@ -127,7 +127,7 @@ called c call =
     record {
       state = after c.state 0 call (digest_for c.words call) (c.made + 1);
       made = c.made + 1;
-      contexts = changed c.contexts (after_call c.state 0 call) (leaving_of call);
+      contexts = contexts_after c.contexts (change_after c.state 0 call) (leaving_of call);
       words = if is_ok then stored c.state.shape call (pte_places c call) c.words else c.words;
       answers = c.answers ++ loaded_by c call;
       log = c.log ++ events.Entry (entry_of c call) ∷ [];
@@ -136,9 +136,9 @@ called c call =
 -- ---- the lines of a script
 
 -- a tick leaves the enclave; for the OS it does nothing
-abbrev pub ticked : Mode → Core → Core
-ticked modes.Os c = c
-ticked (modes.Inside e t) c = called c (calls.Aex (saved_words c.contexts.current tick_cause))
+abbrev pub tick_made : Mode → Core → Core
+tick_made modes.Os c = c
+tick_made (modes.Inside e t) c = called c (calls.Aex (saved_context c.contexts.current tick_cause))
 
 -- the core with another pc and other registers
 abbrev pub with_current : Core → Context → Core
@@ -157,7 +157,7 @@ reg_set (modes.Inside e t) c x value = c
 abbrev pub core_after : Core → Line → Core
 core_after c (lines.Make call) = called c call
 core_after c (lines.Run turns) = c
-core_after c lines.Tick = ticked (mode_now c) c
+core_after c lines.Tick = tick_made (mode_now c) c
 core_after c (lines.LoadWord va) = c
 core_after c (lines.StoreWord va value) = c
 core_after c (lines.SetPc pc) = pc_set (mode_now c) c pc
@@ -169,14 +169,14 @@ is_spent c =
     nat_lt (event_budget - length c.log) line_events || nat_lt (answer_budget - length c.answers) line_answers
 
 -- a Limit at line n
-abbrev pub stopped : Core → ℕ → Core
-stopped c n = record c { log = c.log ++ events.Stop n whys.Limit ∷ [] }
+abbrev pub stopped_at : Core → ℕ → Core
+stopped_at c n = record c { log = c.log ++ events.Stop n whys.Limit ∷ [] }
 
 -- The core after these lines, the first of which has number n: each is carried out, up to a Limit at the first line
 -- before which too little is left of a budget.
 unfoldable pub core_from : Core → ℕ → List Line → Core
 core_from c n [] = c
-core_from c n (line ∷ rest) = if is_spent c then stopped c n else core_from (core_after c line) (n + 1) rest
+core_from c n (line ∷ rest) = if is_spent c then stopped_at c n else core_from (core_after c line) (n + 1) rest
 
 -- what the core leaves
 abbrev pub finished_by : Core → Finished

@@ -2,7 +2,7 @@
 
 ghost use Rattle.std.specs.Prelude.{◌≡◌, ◌+◌, ◌≤◌, false, length};
 ghost use Rattle.mon_types.specs.Budgets.{event_budget, answer_budget, line_events, line_answers};
-ghost use Rattle.solo.specs.Solo.{mode_now, ticked, pc_set, reg_set, core_after, is_spent, stopped, core_from};
+ghost use Rattle.solo.specs.Solo.{mode_now, tick_made, pc_set, reg_set, core_after, is_spent, stopped_at, core_from};
 
 use crate::machine::Machine;
 use hist::{Event, Why};
@@ -20,7 +20,7 @@ impl Machine {
     fn tick(&mut self)
         requires events { length self.old.log + line_events ≤ event_budget }
         requires answers { length self.old.answers + line_answers ≤ answer_budget }
-        ensures { self.new ≡ ticked (mode_now self.old) self.old }
+        ensures { self.new ≡ tick_made (mode_now self.old) self.old }
     {
         match self.mode() {
             Mode::Os => {}
@@ -74,7 +74,7 @@ impl Machine {
     /// Logs a Limit at this line.
     fn stop(&mut self, line: u32)
         requires { length self.old.log + 1 ≤ event_budget }
-        ensures { self.new ≡ stopped self.old line }
+        ensures { self.new ≡ stopped_at self.old line }
     {
         self.log.add(Event::Stop {
             line,

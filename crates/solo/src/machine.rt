@@ -30,13 +30,13 @@ pub struct Machine {
 
 impl Model for Machine {
     ghost use Rattle.solo.specs.Solo.{Core};
-    ghost use Rattle.solo.specs.Kept.{IsKept};
+    ghost use Rattle.solo.specs.Kept.{IsSoundMachine};
 
     ghost Value = { Core };
 
     ghost view = { λ m. record { state = m.monitor.state; made = m.made; contexts = m.contexts; words = m.memory; answers = m.answers; log = m.log.events } };
 
-    ghost invariant = { λ m. IsKept m.config m.monitor m.made m.memory m.log };
+    ghost invariant = { λ m. IsSoundMachine m.config m.monitor m.made m.memory m.log };
 }
 
 impl Machine {

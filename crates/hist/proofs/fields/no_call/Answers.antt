@@ -1,5 +1,5 @@
 use Rattle.std.proofs.Common.{[], refl, arith}
-use Rattle.hist.specs.Rows.{r3}
+use Rattle.mon_model.specs.Examples.{r3}
 use Rattle.hist.proofs.ByHand.{not_held}
 use Rattle.hist.proofs.fields.no_call.Goals as goal
 

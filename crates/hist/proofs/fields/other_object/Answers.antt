@@ -1,5 +1,5 @@
 use Rattle.std.proofs.Common.{◌≡◌, true, false, [], refl, arith}
-use Rattle.hist.specs.Rows.{r3}
+use Rattle.mon_model.specs.Examples.{r3}
 use Rattle.hist.proofs.ByHand.{not_held}
 use Rattle.hist.proofs.fields.other_object.Goals as goal
 

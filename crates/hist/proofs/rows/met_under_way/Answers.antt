@@ -3,7 +3,8 @@ use Rattle.mon_types.specs.Shape.{plain}
 use Rattle.hist.specs.History.{entries_of, log_of, history}
 use Rattle.hist.specs.Legal.{AreOwn}
 use Rattle.hist.specs.Busy.{as_entry, AreRightlyBusy}
-use Rattle.hist.specs.Rows.{r3, met_under_way, holds_now, meets_now}
+use Rattle.mon_model.specs.Examples.{r3}
+use Rattle.hist.specs.Rows.{met_under_way, holds_now, meets_now}
 use Rattle.hist.proofs.ByHand.{by_two, not_held}
 use Rattle.hist.proofs.rows.met_under_way.Goals as goal
 

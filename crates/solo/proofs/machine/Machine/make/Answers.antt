@@ -9,7 +9,7 @@ use Rattle.mon_model.specs.Step.{reply_of, after}
 use Rattle.mon_model.proofs.Carried.{Carried, carried}
 use Rattle.core_context.specs.declared.after.After.{After}
 use Rattle.core_context.specs.declared.contexts.Leaving.{Leaving}
-use Rattle.core_context.specs.Changes.{change_of, changed}
+use Rattle.core_context.specs.Changes.{ok_change, contexts_after}
 use Rattle.dram_map.specs.Words.{word_at}
 use Rattle.hist.specs.declared.event.PageInput.{PageInput}
 use Rattle.mon_seq.specs.Sequential.{Sequential}
@@ -47,7 +47,7 @@ returns-then-done c =
     let done : is_done (reply_of s 0 call) ≡ true = sym (ap (λ (b : Begun). is_done b.reply) c.begin.ensures.begun) ∙ sym c.is_ok-done.ensures ∙ c.if-done.true in
     let ok : Carried s 0 call = carried s 0 call done in
     let at : c.len.result + c.len-2.result ≡ length i.answers + length places = omega (arith, c.len.ensures, c.len-2.ensures.value) in
-    let change : c.core_change-change.result ≡ change_of s 0 call = c.core_change-change.ensures.in_states s 0 ok.none (ap (λ (b : Begun). b.held) c.begin.ensures.begun) in
+    let change : c.core_change-change.result ≡ ok_change s 0 call = c.core_change-change.ensures.in_states s 0 ok.none (ap (λ (b : Begun). b.held) c.begin.ensures.begun) in
     made_so core call places page begun.reply begun.tried _ record {
       ok = done;
       path = places_are core i.config _ call begun places c.self.invariant.machine (ap (λ (ms : List Mode). slice_index_or ms 0 modes.Os) (sym c.modes.ensures.list)) c.begin.ensures.begun c.places_read-places.ensures;
@@ -58,7 +58,7 @@ returns-then-done c =
           ∙ ap (λ (ticket : ℕ). after s 0 call c.digest_in.result (ticket + 1)) c.self.invariant.tickets
           ∙ ap (λ (digest : List ℕ). after s 0 call digest (i.made + 1)) c.digest_in.ensures;
       made = refl;
-      contexts = c.change.ensures ∙ ap (λ (a : After). changed i.contexts a c.leaving_of.result) change ∙ ap (λ (l : Leaving). changed i.contexts (change_of s 0 call) l) c.leaving_of.ensures;
+      contexts = c.change.ensures ∙ ap (λ (a : After). contexts_after i.contexts a c.leaving_of.result) change ∙ ap (λ (l : Leaving). contexts_after i.contexts (ok_change s 0 call) l) c.leaving_of.ensures;
       words = c.store.ensures.stored ∙ ap (λ (l : List ℕ). stored i.config call l i.memory) c.deref-then-done.ensures.0
           ∙ ap (λ (shape : Shape). stored shape call places i.memory) (sym c.self.invariant.machine);
       answers = c.give_source.ensures
