@@ -1,5 +1,5 @@
 -- What each change makes of each word of the content.
-use Rattle.std.proofs.Common.{◌≡◌, ◌⊎◌, inl, inr, ◌∙◌, ◌+◌, ◌*◌, ◌/◌, ◌%◌, ◌^◌, ◌<◌, ℕ, Bool, true, cond, eqb, Option, Some, None, List, ap, sym, refl, subst, get_or, arith}
+use Rattle.std.proofs.Common.{◌≡◌, ◌⊎◌, inl, inr, ◌∙◌, ◌+◌, ◌*◌, ◌/◌, ◌%◌, ◌^◌, ◌<◌, ℕ, true, cond, eqb, Option, Some, None, List, ap, sym, refl, subst, get_or, arith}
 use Rattle.std.proofs.lemmas.Bool.{cases_eq, eq-eqb, ne_eqb}
 use Rattle.mon_types.specs.Bits.{has_bit}
 use Rattle.mon_types.specs.Shape.{Shape, region_of_page}

@@ -1,5 +1,5 @@
 -- What holds of the state and its content holds after any number of entries of a legal history.
-use Rattle.std.proofs.Common.{◌≡◌, ℕ, zero, suc, ◌+◌, ◌<◌, Bool, true, false, cond, List, [], ◌∷◌, ◌++◌, length, take, get_or, refl, sym, ap, ◌∙◌, subst, arith}
+use Rattle.std.proofs.Common.{◌≡◌, ℕ, zero, suc, ◌+◌, ◌<◌, Bool, true, false, cond, List, [], ◌∷◌, ◌++◌, length, take, refl, sym, ap, ◌∙◌, subst, arith}
 use Rattle.std.specs.List.{flat_map, AllByRecursion}
 use Rattle.mon_types.specs.Shape.{Shape, is_shape}
 use Rattle.mon_types.specs.Replies.{is_done, is_concurrent}
@@ -13,7 +13,7 @@ use Rattle.mon_facts.proofs.FactsKept.{start_kept, after_kept}
 use Rattle.hist.specs.declared.event.Entry.{Entry}
 use Rattle.hist.specs.declared.event.Event.{Event}
 use Rattle.hist.specs.History.{entries_of, log_of, history, digest_of, after_entry, after_entries, state_after}
-use Rattle.hist.specs.Legal.{AreOwn, AreOwnLogs, IsLegalEntry, AreLegalEntries, Legal}
+use Rattle.hist.specs.Legal.{AreOwn, IsLegalEntry, AreLegalEntries, Legal}
 use Rattle.hist.proofs.Ascending.{all_ordered}
 use Rattle.loaded_pages.specs.Content.{Content, zero_content, content_by, content_after}
 use Rattle.loaded_pages.specs.History.{entry_words, after_one, content_from, content_at}

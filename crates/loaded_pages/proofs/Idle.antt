@@ -15,7 +15,7 @@ use Rattle.mon_types.specs.declared.call.Call.TheVariants as calls
 use Rattle.mon_types.specs.declared.reply.Reply.TheVariants as replies
 use Rattle.mon_model.proofs.Bits.{with-other}
 use Rattle.mon_model.specs.State.{State, region_at, enclave_at, mode_of, with_region}
-use Rattle.mon_model.specs.RegionCalls.{is_empty, is_free, blocked, assigned, free_reply, assign_reply, accept_region_reply}
+use Rattle.mon_model.specs.RegionCalls.{is_empty, is_free, blocked, assigned, assign_reply, accept_region_reply}
 use Rattle.mon_model.specs.EnclaveCalls.{deleted}
 use Rattle.mon_model.specs.Step.{reply_of, held_reply, after, effect, assignee, without_own_region, with_deleted, regions_of}
 use Rattle.mon_model.proofs.Carried.{carried}

@@ -8,3 +8,4 @@ pub mod Loads
 pub mod Words
 pub mod Histories
 pub mod Pages
+pub mod Asking

@@ -1,6 +1,6 @@
 -- What an Ok of load_table, load_page or reserve leaves of the content: one word more, and a page's words, in pages of
 -- the enclave; so what holds of the content is kept by every call.
-use Rattle.std.proofs.Common.{◌≡◌, ◌≢◌, ◌⊎◌, inl, inr, ◌∙◌, ◌+◌, ◌*◌, ◌/◌, ◌%◌, ◌^◌, ◌<◌, ◌≤◌, ℕ, zero, suc, Bool, true, false, cond, eqb, not, ◌&&◌, ◌||◌, nat_le, Option, Some, None, is_some, List, [], ◌∷◌, ◌++◌, length, replicate, All, ap, sym, refl, subst, get_or, arith}
+use Rattle.std.proofs.Common.{◌≡◌, ◌≢◌, ◌⊎◌, inl, inr, ◌∙◌, ◌+◌, ◌*◌, ◌/◌, ◌^◌, ◌<◌, ◌≤◌, ℕ, zero, suc, Bool, true, false, cond, eqb, not, ◌&&◌, ◌||◌, nat_le, Option, Some, None, is_some, List, [], ◌∷◌, ◌++◌, length, replicate, All, ap, sym, refl, subst, get_or, arith}
 use Rattle.std.specs.List.{find, list_any}
 use Rattle.std.proofs.lemmas.Bool.{cases_eq, eqb-true}
 use Rattle.std.proofs.lemmas.Bool.Decides.{nat_tests}
@@ -24,23 +24,23 @@ use Rattle.mon_model.specs.RegionCalls.{is_loading}
 use Rattle.mon_model.specs.Loading.{served_part, is_there_for, is_table_1, is_table_0, is_leaf, has_table_1, has_table_0, has_root, in_range, is_next_page, takes_page, reserves_page, has_place_for_leaf}
 use Rattle.mon_model.specs.EnclaveCalls.{leaf_fits, is_os_owned, with_table, with_page, with_reserved}
 use Rattle.mon_model.proofs.InRange.{in_range as arguments_in_range}
-use Rattle.mon_model.specs.Step.{reply_of, held_reply, after, effect}
+use Rattle.mon_model.specs.Step.{reply_of, after, effect}
 use Rattle.mon_model.proofs.Carried.{carried}
 use Rattle.mon_facts.specs.Facts.{FactsHold, IsPlaced, IsRootPlaced, is_owned_by}
 use Rattle.dram_map.specs.Addresses.{region_of_word}
 use Rattle.sv39_pte.specs.Tables.{pte_index, pointer_pte, leaf_pte}
 use Rattle.mon_enclaves.specs.FromItems.{table_1_for, table_0_for, leaf_for}
 use Rattle.mon_enclaves.proofs.Alike.{is_some-find}
-use Rattle.loaded_pages.specs.Content.{Content, zero_content, emptied, region_zeroed, page_put, content_put, place_in_root, place_in_table, loaded_place, loaded_pte, page_loaded, content_by, content_after}
+use Rattle.loaded_pages.specs.Content.{Content, zero_content, emptied, region_zeroed, page_put, content_put, place_in_root, place_in_table, content_by, content_after}
 use Rattle.mon_model.specs.RegionStep.{is_idle}
 use Rattle.loaded_pages.specs.Facts.{word_in, IsTable, TablesHold, PagesHold, ContentHolds}
 use Rattle.loaded_pages.specs.Laws.{IsLoad}
 use Rattle.loaded_pages.proofs.Cases.{clash, none_some, some_same}
-use Rattle.loaded_pages.proofs.Tables.{put, put_same, put_other, put_beside, index_less, item, table_1_kept, table_0_kept, leaf_kept, old_1, old_0, was_1, was_0, same_1_leaf, same_0_leaf}
+use Rattle.loaded_pages.proofs.Tables.{put, index_less, item, table_1_kept, table_0_kept, leaf_kept, same_1_leaf, same_0_leaf}
 use Rattle.loaded_pages.proofs.Changes.{paste_other, link_none, link_other, link_put, put_content, page_home, Within, link_within, paste_within}
 use Rattle.loaded_pages.proofs.Idle.{emptied_if}
 use Rattle.loaded_pages.proofs.Later.{LoadsNothing, same_enclave}
-use Rattle.loaded_pages.proofs.Stay.{IsInside, table_inside, root_inside, tables_same, pages_stay, content_kept}
+use Rattle.loaded_pages.proofs.Stay.{table_inside, tables_same, pages_stay, content_kept}
 
 -- ---- who has a region
 

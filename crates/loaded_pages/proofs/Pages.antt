@@ -1,10 +1,8 @@
 -- After an Ok of load_page its page holds the words that were read.
-use Rattle.std.proofs.Common.{◌≡◌, ◌∙◌, inl, inr, ℕ, zero, suc, ◌+◌, ◌*◌, ◌/◌, ◌%◌, ◌<◌, ◌&&◌, Bool, true, false, cond, None, List, [], ◌∷◌, length, map, get_or, ap, refl, sym, arith}
+use Rattle.std.proofs.Common.{◌≡◌, ◌∙◌, inr, ℕ, suc, ◌+◌, ◌*◌, ◌%◌, ◌<◌, ◌&&◌, true, cond, None, List, [], ◌∷◌, length, map, get_or, ap, refl, sym, arith}
 use Rattle.std.specs.List.{range_with_len}
 use Rattle.mon_types.specs.Replies.{is_done}
 use Rattle.mon_types.specs.Shape.{region_of_page}
-use Rattle.mon_types.specs.declared.enclave.Enclave.{Enclave}
-use Rattle.mon_types.specs.declared.enclave.Loaded.{Loaded}
 use Rattle.mon_types.specs.declared.call.Call.TheVariants as calls
 use Rattle.mon_model.specs.State.{State, region_at, enclave_at, loaded_at}
 use Rattle.mon_model.specs.Loading.{is_there_for, is_table_0, has_table_1, has_table_0, is_next_page, takes_page, has_place_for_leaf}

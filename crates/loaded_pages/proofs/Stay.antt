@@ -1,6 +1,6 @@
 -- A call that loads nothing keeps what holds of the content: idle regions hold zeros, and the pages of a Loading
 -- enclave hold its tables, and zeros from its next page on.
-use Rattle.std.proofs.Common.{◌≡◌, ◌⊎◌, inl, inr, ◌∙◌, ◌+◌, ◌*◌, ◌/◌, ◌%◌, ◌^◌, ◌<◌, ◌≤◌, ℕ, Bool, true, false, cond, eqb, suc, ◌&&◌, Option, Some, None, List, [], ◌∷◌, ap, sym, refl, subst, get_or, arith}
+use Rattle.std.proofs.Common.{◌≡◌, inl, inr, ◌∙◌, ◌+◌, ◌*◌, ◌<◌, ◌≤◌, ℕ, Bool, true, false, cond, eqb, suc, ◌&&◌, Option, Some, None, List, [], ◌∷◌, ap, sym, refl, subst, arith}
 use Rattle.std.specs.List.{find, All}
 use Rattle.mon_types.specs.Bits.{has_bit}
 use Rattle.mon_types.specs.Replies.{is_done}
@@ -18,7 +18,6 @@ use Rattle.mon_model.specs.Step.{reply_of, after}
 use Rattle.mon_facts.specs.Facts.{IsPlaced, is_reserved, FactsHold}
 use Rattle.dram_map.specs.Addresses.{region_of_word}
 use Rattle.sv39_pte.specs.Tables.{pte_index}
-use Rattle.mon_enclaves.specs.FromItems.{table_1_for, table_0_for}
 use Rattle.loaded_pages.specs.Content.{Content, region_zeroed}
 use Rattle.mon_model.specs.RegionStep.{is_idle}
 use Rattle.loaded_pages.specs.Facts.{word_in, IsTable, TablesHold, PagesHold, ContentHolds}

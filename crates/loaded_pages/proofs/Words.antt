@@ -1,6 +1,6 @@
 -- The words on an address's path are those that the items give, so a call that loads has by them the reply that it has
 -- by the items.
-use Rattle.std.proofs.Common.{◌≡◌, inl, inr, ◌∙◌, ◌+◌, ◌*◌, ◌-◌, ◌^◌, ◌<◌, ℕ, zero, suc, Bool, true, false, cond, eqb, not, ◌&&◌, ◌||◌, Option, Some, None, List, [], ◌∷◌, map, ap, sym, refl, subst, arith}
+use Rattle.std.proofs.Common.{◌≡◌, ◌∙◌, ◌-◌, ◌^◌, ◌<◌, ℕ, suc, Bool, true, false, cond, eqb, not, ◌&&◌, ◌||◌, Option, Some, None, List, [], ◌∷◌, map, ap, sym, refl, subst}
 use Rattle.std.specs.List.{find}
 use Rattle.mon_types.specs.Replies.{is_done, done_if}
 use Rattle.mon_types.specs.Shape.{Shape, is_shape, page_total, region_of_page}
@@ -14,7 +14,6 @@ use Rattle.mon_model.specs.RegionCalls.{is_loading}
 use Rattle.mon_model.specs.Loading.{StandInPages, is_there_for, is_table_1, is_table_0, has_table_1, has_table_0, has_leaf, has_root, in_range, is_next_page, takes_page, reserves_page, has_place_for_table, has_place_for_leaf}
 use Rattle.mon_model.specs.EnclaveCalls.{table_fits, leaf_fits, is_os_owned}
 use Rattle.mon_model.specs.Early.{early}
-use Rattle.mon_model.specs.InRange.{IsInRange}
 use Rattle.mon_model.proofs.InRange.{in_range as in_range_of, not_refused}
 use Rattle.mon_model.proofs.Carried.{carried}
 use Rattle.mon_model.specs.Step.{reply_of, held_reply}
@@ -23,14 +22,14 @@ use Rattle.sv39_pte.specs.Tables.{pte_index, pte_place, leads_to_table, page_led
 use Rattle.sv39_pte.proofs.Fields.{pointer_leads}
 use Rattle.mon_enclaves.specs.ByWords.{table_path, leaf_path, words_fit, table_reply, page_reply, reserved_reply}
 use Rattle.mon_enclaves.specs.FromItems.{table_1_for, table_0_for, leaf_for, pte_of_table, pte_of_leaf, below, table_1_words, table_0_words, table_words, leaf_words}
-use Rattle.mon_enclaves.specs.LoadReply.{slot_of, va_of, path_length, words_reply}
+use Rattle.mon_enclaves.specs.LoadReply.{words_reply}
 use Rattle.mon_enclaves.proofs.Alike.{table_reply-words, page_reply-words, reserved_reply-words}
 use Rattle.loaded_pages.specs.Content.{Content, place_in_root, place_in_table, loaded_place}
 use Rattle.loaded_pages.specs.Path.{words_below, places_below, call_places, call_words, last_place}
 use Rattle.loaded_pages.specs.Facts.{word_in, TablesHold, ContentHolds}
 use Rattle.loaded_pages.specs.Laws.{IsLoad, PathAgrees}
 use Rattle.loaded_pages.proofs.Cases.{clash, none_some, some_same}
-use Rattle.loaded_pages.proofs.Loads.{and_left, and_right, not_true, done_true, is_there, any_found, taken, page_ok}
+use Rattle.loaded_pages.proofs.Loads.{and_left, and_right, done_true, is_there, any_found, taken, page_ok}
 
 -- ---- where the pte of a table leads
 
@@ -209,7 +208,7 @@ module _ (s : State) (f : Content) (t : AreTables s) (h : ContentHolds s f) wher
   -- a table, by its level
   table_place : (e va page : ℕ) → va < 2 ^ 38 → (two one : Bool)
       → (takes_page s.shape (enclave_at s e) page && cond two (not (has_root (enclave_at s e))) (in_range (enclave_at s e) va && has_root (enclave_at s e))
-        && (two || cond one (not (has_table_1 va (loaded_at s e))) (has_table_1 va (loaded_at s e) && not (has_table_0 va (loaded_at s e))))) ≡ true
+      && (two || cond one (not (has_table_1 va (loaded_at s e))) (has_table_1 va (loaded_at s e) && not (has_table_0 va (loaded_at s e))))) ≡ true
       → cond two None (cond one (place_in_root (enclave_at s e).root va) (place_in_table (table_1_for va (loaded_at s e)) 1 va))
       ≡ last_place (places_below s.shape f va (cond two 0 (cond one 1 2)) (enclave_at s e).root)
   table_place e va page small true one ok = by (enclave_at s e).root

@@ -1,6 +1,6 @@
 -- Laws of the content: it agrees with the loaded items in every state that a history reaches, so a call that loads is
 -- decided alike by the words on its path and by the items. This project's own.
-use Rattle.std.specs.Prelude.{◌≡◌, ℕ, ◌<◌, ◌^◌, true, List, length, Some, None}
+use Rattle.std.specs.Prelude.{false, ◌+◌, ◌&&◌, [], ◌∷◌, ◌++◌, ◌≡◌, ℕ, ◌<◌, ◌^◌, true, List, length, Some, None}
 use Rattle.mon_types.specs.Shape.{Shape, is_shape}
 use Rattle.mon_types.specs.Replies.{is_done}
 use Rattle.mon_types.specs.declared.call.Call.{Call}
@@ -17,7 +17,9 @@ use Rattle.hist.specs.History.{state_after}
 use Rattle.hist.specs.Legal.{Legal}
 use Rattle.dram_map.specs.Addresses.{page_words}
 use Rattle.mon_enclaves.specs.FromItems.{table_words, leaf_words}
-use Rattle.mon_enclaves.specs.LoadReply.{words_reply}
+use Rattle.sv39_pte.specs.Tables.{leads_to_table}
+use Rattle.mon_enclaves.specs.ByWords.{words_fit}
+use Rattle.mon_enclaves.specs.LoadReply.{path_length, words_reply}
 use Rattle.loaded_pages.specs.Content.{Content, zero_content, loaded_place, content_after}
 use Rattle.loaded_pages.specs.History.{content_at, page_words_of}
 use Rattle.loaded_pages.specs.Path.{words_below, call_places, call_words, last_place}
@@ -34,7 +36,7 @@ ContentStays =
     (s : State) (content : Content) (core : ℕ) (call : Call) (words digest : List ℕ) (ticket : ℕ)
     → core < s.shape.cores → AreTables s → FactsHold s → ContentHolds s content
     → let next = monitor_step s core call digest ticket in
-      ContentHolds next.0 (content_after s next.1 call words content)
+    ContentHolds next.0 (content_after s next.1 call words content)
 
 -- ---- every history
 
@@ -85,7 +87,7 @@ WordsDecideInHistory =
     (shape : Shape) (logs : List (List Event)) (answers : List (List ℕ)) (k core : ℕ) (call : Call)
     → is_shape shape ≡ true → Legal shape logs → IsLoad call
     → let s = state_after shape logs k in
-      early s.shape (mode_of s core) call ≡ None
+    early s.shape (mode_of s core) call ≡ None
     → words_reply s call (call_words s (content_at shape logs answers k) call) ≡ held_reply s core call
 
 -- where it is Ok, its pte goes to the last place on its path
@@ -93,6 +95,27 @@ abbrev pub PteGoesLast : Type 0
 PteGoesLast =
     (s : State) (content : Content) (core : ℕ) (call : Call) → AreTables s → ContentHolds s content → IsLoad call
     → is_done (reply_of s core call) ≡ true → loaded_place s call ≡ last_place (call_places s content call)
+
+-- ---- word by word
+
+-- a refusal before any word is read is the reply
+abbrev pub RefusedFirst : Type 0
+RefusedFirst =
+    (s : State) (core : ℕ) (call : Call) → IsLoad call → is_done (words_reply s call []) ≡ false
+    → words_reply s call [] ≡ held_reply s core call
+
+-- by the words that were read so far it is Ok exactly where it is so by none, and the last of them fits
+abbrev pub OkByWords : Type 0
+OkByWords =
+    (s : State) (call : Call) (words : List ℕ) → IsLoad call
+    → is_done (words_reply s call words)
+    ≡ (is_done (words_reply s call []) && words_fit s.shape (path_length call) words)
+
+-- before the end of the path a word fits exactly where it leads to a table, as the walk goes on
+abbrev pub FitsWhereItLeads : Type 0
+FitsWhereItLeads =
+    (shape : Shape) (path word : ℕ) (words : List ℕ) → length words + 1 < path
+    → words_fit shape path (words ++ word ∷ []) ≡ leads_to_table shape word
 
 -- ---- pages
 
@@ -102,5 +125,5 @@ PageHoldsWords =
     (s : State) (content : Content) (core e va page src perms : ℕ) (words : List ℕ) → FactsHold s
     → length words ≡ page_words
     → let call = calls.LoadPage e va page src perms in
-      is_done (reply_of s core call) ≡ true
+    is_done (reply_of s core call) ≡ true
     → page_words_of (content_after s (reply_of s core call) call words content) page ≡ words

@@ -1,7 +1,7 @@
 //! The laws: what holds of the content, after each call and each history, and what follows for the
 //! words on an address's path.
 
-ghost use Rattle.loaded_pages.specs.Laws.{StartContentHolds, ContentStays, HistoryReaches, PathsAgree, WordsDecide, WordsDecideInHistory, PteGoesLast, PageHoldsWords};
+ghost use Rattle.loaded_pages.specs.Laws.{StartContentHolds, ContentStays, HistoryReaches, PathsAgree, WordsDecide, WordsDecideInHistory, PteGoesLast, RefusedFirst, OkByWords, FitsWhereItLeads, PageHoldsWords};
 
 /// Idle regions hold zeros, and the tables of each Loading enclave the ptes of its items: at the start,
 /// and after each call, whatever words a load_page reads.
@@ -28,6 +28,14 @@ pub fn words_decide()
     ensures state { WordsDecide }
     ensures history { WordsDecideInHistory }
     ensures place { PteGoesLast }
+{}
+
+/// Such a call may be asked for its reply after each word: it is refused before the first, or goes on
+/// exactly where the words lead from table to table.
+pub fn asks_word_by_word()
+    ensures first { RefusedFirst }
+    ensures ok { OkByWords }
+    ensures before { FitsWhereItLeads }
 {}
 
 /// After an Ok of load_page its page holds the words that were read.

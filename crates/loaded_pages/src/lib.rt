@@ -5,4 +5,6 @@
 
 mod laws;
 
-pub use laws::{content_stays, history_reaches, page_holds_words, paths_agree, words_decide};
+pub use laws::{
+    asks_word_by_word, content_stays, history_reaches, page_holds_words, paths_agree, words_decide,
+};
