@@ -45,11 +45,12 @@ emptied (calls.Free r) = Some r
 emptied (calls.Assign r to) = Some r
 emptied _ = None
 
--- the place of an address's pte in the root, or in a table, None where there is none
+-- the place of an address's pte in the root, None where there is none
 abbrev pub place_in_root : Option ℕ → ℕ → Option ℕ
 place_in_root None va = None
 place_in_root (Some page) va = Some (pte_place page 2 va)
 
+-- the same in a table of this level
 abbrev pub place_in_table : Option Loaded → ℕ → ℕ → Option ℕ
 place_in_table None level va = None
 place_in_table (Some table) level va = Some (pte_place table.page level va)

@@ -22,10 +22,11 @@ words_read (Some page) answers = take page_words (drop page.at answers)
 abbrev pub entry_words : List (List ℕ) → Entry → List ℕ
 entry_words answers e = words_read e.page (slice_index_or answers e.core [])
 
--- after an entry in state s, and after these entries from state s on
+-- after an entry in state s
 abbrev pub after_one : List (List ℕ) → State → Entry → Content → Content
 after_one answers s e content = content_after s e.reply e.call (entry_words answers e) content
 
+-- after these entries, the first of them in state s
 abbrev pub content_from : List (List ℕ) → State → List Entry → Content → Content
 content_from answers s [] content = content
 content_from answers s (e ∷ es) content = content_from answers (after_entry s e) es (after_one answers s e content)
@@ -56,5 +57,6 @@ abbrev pub HasDigest : List (List ℕ) → Entry → Option PageInput → Type 0
 HasDigest answers e None = Unit {0}
 HasDigest answers e (Some page) = page.digest ≡ page_digest (entry_words answers e)
 
+-- the same of each of these entries
 abbrev pub HaveDigests : List (List ℕ) → List Entry → Type 0
 HaveDigests answers es = AllByRecursion (λ e. HasDigest answers e e.page) es

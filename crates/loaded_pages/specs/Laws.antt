@@ -1,6 +1,6 @@
 -- Laws of the content: it agrees with the loaded items in every state that a history reaches, so a call that loads is
 -- decided alike by the words on its path and by the items. This project's own.
-use Rattle.std.specs.Prelude.{false, ◌+◌, ◌&&◌, [], ◌∷◌, ◌++◌, ◌≡◌, ℕ, ◌<◌, ◌^◌, true, List, length, Some, None}
+use Rattle.std.specs.Prelude.{◌≡◌, ℕ, ◌+◌, ◌<◌, ◌^◌, ◌&&◌, true, false, List, [], ◌∷◌, ◌++◌, length, Some, None}
 use Rattle.mon_types.specs.Shape.{Shape, is_shape}
 use Rattle.mon_types.specs.Replies.{is_done}
 use Rattle.mon_types.specs.declared.call.Call.{Call}
@@ -27,10 +27,11 @@ use Rattle.loaded_pages.specs.Facts.{ContentHolds}
 
 -- ---- one call
 
+-- at the start the content holds zeros, and nothing is loaded
 abbrev pub StartContentHolds : Type 0
 StartContentHolds = (shape : Shape) → ContentHolds (start shape) zero_content
 
--- whatever the words of a loaded page are
+-- each call keeps what holds, whatever the words of a loaded page are
 abbrev pub ContentStays : Type 0
 ContentStays =
     (s : State) (content : Content) (core : ℕ) (call : Call) (words digest : List ℕ) (ticket : ℕ)
@@ -61,6 +62,7 @@ pub record PathAgrees (shape : Shape) (content : Content) (items : List Loaded) 
   pub table_0 : words_below shape content va 2 (Some root) ≡ table_words items va 0
   pub leaf : (perms : ℕ) × (words_below shape content va 3 (Some root) ≡ leaf_words items va perms)
 
+-- the same in a Loading enclave with a root, for each address that a call may name
 abbrev pub PathsAgree : Type 0
 PathsAgree =
     (s : State) (content : Content) (e root va : ℕ) → AreTables s → ContentHolds s content

@@ -17,11 +17,12 @@ places_below shape content va count (Some root) = path_by shape content va 2 cou
 abbrev pub words_below : Shape → Content → ℕ → ℕ → Option ℕ → List ℕ
 words_below shape content va count root = map content (places_below shape content va count root)
 
--- the places and the words on the path of a call that loads
+-- the places on the path of a call that loads
 abbrev pub call_places : State → Content → Call → List ℕ
 call_places s content call =
     places_below s.shape content (va_of call) (path_length call) (enclave_at s (slot_of call)).root
 
+-- the words on it
 abbrev pub call_words : State → Content → Call → List ℕ
 call_words s content call = map content (call_places s content call)
 

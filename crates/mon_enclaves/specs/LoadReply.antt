@@ -9,19 +9,21 @@ use Rattle.mon_types.specs.declared.reply.Reply.TheVariants as replies
 use Rattle.mon_model.specs.State.{State, region_at, enclave_at}
 use Rattle.mon_enclaves.specs.ByWords.{table_path, leaf_path, table_reply, page_reply, reserved_reply}
 
--- the slot that the call loads into, its address, and how many ptes its path has; for any other call 0
+-- the slot that the call loads into; for any other call 0
 abbrev pub slot_of : Call → ℕ
 slot_of (calls.LoadTable e va level page) = e
 slot_of (calls.LoadPage e va page src perms) = e
 slot_of (calls.Reserve e va page perms) = e
 slot_of _ = 0
 
+-- the address for which it loads; for any other call 0
 abbrev pub va_of : Call → ℕ
 va_of (calls.LoadTable e va level page) = va
 va_of (calls.LoadPage e va page src perms) = va
 va_of (calls.Reserve e va page perms) = va
 va_of _ = 0
 
+-- how many ptes its path has; for any other call 0
 abbrev pub path_length : Call → ℕ
 path_length (calls.LoadTable e va level page) = table_path level
 path_length (calls.LoadPage e va page src perms) = leaf_path

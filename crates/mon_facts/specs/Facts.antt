@@ -21,7 +21,7 @@ use Rattle.mon_facts.specs.Tables.{IsRooted}
 
 -- ---- regions
 
--- the owner is the enclave in slot e
+-- whether the owner is the enclave in slot e
 abbrev pub is_enclave : ℕ → Owner → Bool
 is_enclave e owners.Os = false
 is_enclave e (owners.Enclave f) = e == f
@@ -88,7 +88,7 @@ RunningAreInitialized s =
 
 -- ---- loaded items
 
--- a page whose region the enclave is to accept later
+-- whether an item of this kind lies outside the enclave's set
 abbrev pub is_reserved : LoadedKind → Bool
 is_reserved kinds.Table2 = false
 is_reserved kinds.Table1 = false

@@ -8,35 +8,35 @@ use Rattle.mon_model.specs.Step.{monitor_step}
 use Rattle.mon_facts.specs.Tables.{AreTables, AreDated}
 use Rattle.mon_facts.specs.Facts.{FactsHold}
 
--- the tables at the start, and after each call
+-- the tables at the start of a machine within the limits
 abbrev pub StartHasTables : Type 0
 StartHasTables = (shape : Shape) → is_shape shape ≡ true → AreTables (start shape)
 
--- after each call
+-- the tables after each call of a core of the machine
 abbrev pub TablesStay : Type 0
 TablesStay =
     (s : State) (core : ℕ) (call : Call) (digest : List ℕ) (ticket : ℕ)
     → core < s.shape.cores → AreTables s → AreTables (monitor_step s core call digest ticket).0
 
--- the tickets of regions at the start, after each call at the next ticket, and after a ticket that no call spends
+-- the tickets of regions at the start
 abbrev pub StartIsDated : Type 0
 StartIsDated = (shape : Shape) → AreDated 0 (start shape)
 
--- after each call at the next ticket
+-- the same after each call, at the next ticket
 abbrev pub DatesStay : Type 0
 DatesStay =
     (s : State) (core : ℕ) (call : Call) (digest : List ℕ) (k : ℕ)
     → AreDated k s → AreDated (k + 1) (monitor_step s core call digest (k + 1)).0
 
--- after a ticket that no call spends
+-- the same after a ticket that no call spends
 abbrev pub DatesStayUnused : Type 0
 DatesStayUnused = (s : State) (k : ℕ) → AreDated k s → AreDated (k + 1) s
 
--- the facts at the start, and after each call
+-- the facts at the start
 abbrev pub StartHasFacts : Type 0
 StartHasFacts = (shape : Shape) → FactsHold (start shape)
 
--- after each call
+-- the facts after each call of a core of the machine
 abbrev pub FactsStay : Type 0
 FactsStay =
     (s : State) (core : ℕ) (call : Call) (digest : List ℕ) (ticket : ℕ)
