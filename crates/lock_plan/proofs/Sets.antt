@@ -1,18 +1,16 @@
 -- The sets of objects that rise.
-use Rattle.std.proofs.Common.{◌≡◌, ℕ, suc, ◌+◌, ◌-◌, ◌*◌, ◌^◌, ◌<◌, ◌≤◌, true, List, [], ◌∷◌, ◌++◌, refl, sym, ap, ◌∙◌, subst, arith, add-one}
+use Rattle.std.proofs.Common.{◌≡◌, ℕ, ◌+◌, ◌-◌, ◌*◌, ◌^◌, ◌<◌, ◌≤◌, List, [], ◌∷◌, ◌++◌, refl, ap, ◌∙◌, subst, arith, add-one}
 use Rattle.std.proofs.Math.Nat.{pow-succ'}
 use Rattle.std.proofs.Math.Pow.{pow_mono}
-use Rattle.mon_types.specs.Shape.{Shape, is_shape}
+use Rattle.mon_types.specs.Shape.{Shape}
 use Rattle.mon_types.specs.LimitLaws.{few_cores, few_regions}
 use Rattle.mon_types.specs.Objects.{object_number}
-use Rattle.mon_types.specs.declared.call.Call.{Call}
 use Rattle.mon_types.specs.declared.object.ObjectId.{ObjectId}
 use Rattle.mon_types.specs.declared.object.ObjectId.TheVariants as objects
 use Rattle.mon_types.specs.declared.object.Tried.{Tried}
-use Rattle.mon_model.specs.State.{State, mode_of}
-use Rattle.mon_model.specs.Tries.{add_tried, tried_set, tries}
-use Rattle.lock_plan.specs.Objects.{HasObject, IsCaller, HasPlace}
-use Rattle.lock_plan.specs.Laws.{AddsTried, OneMoreIsTried}
+use Rattle.mon_model.specs.Tries.{add_tried, tried_set}
+use Rattle.lock_plan.specs.Objects.{HasObject, HasPlace}
+use Rattle.lock_plan.specs.Laws.{OneMoreIsTried}
 use Rattle.lock_plan.proofs.Order.{Rises, every_rises}
 
 -- ---- the sets of what rises

@@ -3,7 +3,7 @@
 ghost use Rattle.std.specs.Prelude.{◌≡◌, ℕ, List};
 ghost use Rattle.mon_types.specs.declared.thread.Mode.{Mode};
 ghost use Rattle.mon_model.specs.MailCalls.{with_mailbox, sent};
-ghost use Rattle.mon_mail.specs.Named.{named_mailbox, named_words, IsAccept, IsSend, IsRead};
+ghost use Rattle.mon_mail.specs.Named.{named_mailbox, message_named, IsAccept, IsSend, IsRead};
 ghost use Rattle.mon_calls.specs.Left.{with_message, left_by};
 
 use crate::put::{set_enclave, set_second};
@@ -25,7 +25,7 @@ pub fn apply_accept(call: &Call, ticket: u32, held: &mut Held)
 /// The target after a message of another enclave, in slot `own` and with this record.
 fn sent_by_other(call: &Call, own: u8, ticket: u32, sender: &Enclave, target: Enclave) -> Enclave
     requires { IsSend call.now }
-    ensures { result ≡ with_mailbox target (named_mailbox call.now) (sent own (named_words call.now) sender.now.measure) }
+    ensures { result ≡ with_mailbox target (named_mailbox call.now) (sent own (message_named call.now) sender.now.measure) }
 {
     let mut new = target;
     after_send(ticket, call, own, Some(sender), &mut new);
@@ -35,7 +35,7 @@ fn sent_by_other(call: &Call, own: u8, ticket: u32, sender: &Enclave, target: En
 /// The enclave in slot `own` after a message to itself.
 fn sent_to_itself(call: &Call, own: u8, ticket: u32, enclave: Enclave) -> Enclave
     requires { IsSend call.now }
-    ensures { result ≡ with_mailbox enclave (named_mailbox call.now) (sent own (named_words call.now) enclave.measure) }
+    ensures { result ≡ with_mailbox enclave (named_mailbox call.now) (sent own (message_named call.now) enclave.measure) }
 {
     let mut new = enclave;
     after_send(ticket, call, own, None, &mut new);
@@ -45,7 +45,7 @@ fn sent_to_itself(call: &Call, own: u8, ticket: u32, enclave: Enclave) -> Enclav
 /// send to slot `to`, by the enclave in slot `own`.
 pub fn apply_send(call: &Call, own: u8, ticket: u32, to: u64, held: &mut Held)
     requires { IsSend call.now }
-    ensures { held.new ≡ with_message held.old own to (named_mailbox call.now) (named_words call.now) }
+    ensures { held.new ≡ with_message held.old own to (named_mailbox call.now) (message_named call.now) }
 {
     let first = enclave_held(held);
     let second = second_enclave_held(held);

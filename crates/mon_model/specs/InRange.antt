@@ -1,5 +1,5 @@
 -- Calls whose arguments name what is there, as those of every call that is not refused early do. This project's own.
-use Rattle.std.specs.Prelude.{◌≡◌, ℕ, ◌<◌, ◌^◌, ⊤}
+use Rattle.std.specs.Prelude.{◌≡◌, ◌<◌, ◌^◌, ⊤}
 use Rattle.mon_types.specs.Owns.{os_word}
 use Rattle.mon_types.specs.Shape.{Shape, page_total}
 use Rattle.mon_types.specs.declared.call.Call.{Call}
