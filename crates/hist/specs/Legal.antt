@@ -33,7 +33,7 @@ AreOwn core serial before (e ∷ es) = IsNextOwn core serial before e × AreOwn 
 abbrev pub AreOwnLogs : List (List Event) → Type 0
 AreOwnLogs logs = (core : ℕ) → core < length logs → AreOwn core 0 0 (entries_of (log_of logs core))
 
--- an entry has a page exactly where it is a load_page that answer_of Ok
+-- an entry has a page exactly where it is a load_page that answered Ok
 abbrev pub has_its_page : Entry → Bool
 has_its_page e = if is_load_page e.call then is_done e.reply else false
 

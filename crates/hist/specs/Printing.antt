@@ -14,7 +14,7 @@ HasFewWords (replies.Ok count words) = count ≤ 8
 HasFewWords _ = ⊤
 
 -- an entry that a call line can tell: no more words than there are, and a page exactly where it is a
--- load_page that answer_of Ok
+-- load_page that answered Ok
 pub record IsPrintable (e : Entry) : Type 0 where
   pub few : HasFewWords e.reply
   pub page : is_some e.page ≡ has_its_page e

@@ -18,7 +18,7 @@ pub struct Entry {
     pub core: u8,
     pub serial: u32,
     pub call: Call,
-    /// Some exactly for a load_page that answer_of Ok.
+    /// Some exactly for a load_page that answered Ok.
     pub page: Option<PageInput>,
     pub reply: Reply,
     /// The objects whose locks the call tried.

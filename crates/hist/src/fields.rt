@@ -153,7 +153,7 @@ pub fn foreign_touch()
     ensures owner { SafeTouchBut 2 before_foreign (events.Touch 3 5) [] foreign_period }
 {}
 
-/// A touch of a region that was free_3 with no flush of the core.
+/// A touch of a region that was freed with no flush of the core.
 pub fn never_flushed()
     ensures safe { ¬ SafeLog (plain 2) never_flushed }
     ensures period { period_in (history never_flushed) 3 0 ≡ Some (period_of_3 0 (Some 1) (Some 3)) }

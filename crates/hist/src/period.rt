@@ -30,7 +30,7 @@ pub struct Period {
 
 /// The period of a region below 64 that began at ticket `since`; None exactly where none began then. At
 /// 0, the start, one began for every region. The logs are such as can be merged; each assign that
-/// answer_of Ok names the OS or a slot below 8, and each such accept_region tried exactly one enclave.
+/// answered Ok names the OS or a slot below 8, and each such accept_region tried exactly one enclave.
 pub fn period_of(logs: &[Log], region: u8, since: u32) -> Option<Period>
     requires logs { CanMerge (events_of logs.now) }
     requires region { region < 64 }

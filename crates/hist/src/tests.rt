@@ -39,7 +39,7 @@ fn call(ticket: u32, call: Call, reply: Reply, enclaves: u8, regions: u64) -> Ev
     })
 }
 
-/// A flush that answer_of Ok.
+/// A flush that answered Ok.
 fn flush(ticket: u32) -> Event
     ensures { result ≡ events.Entry (record { ticket = ticket; core = 0; serial = 0; call = Call.Flush; page = None; reply = DONE; tried = record { enclaves = 0; threads = 0; regions = 0; cells = 0 } }) }
 {
