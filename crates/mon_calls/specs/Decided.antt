@@ -27,7 +27,8 @@ ArePathWords s (calls.Reserve e va page perms) words =
     StandInPages s.shape (loaded_at s e) × ((given : ℕ) × (words ≡ leaf_words (loaded_at s e) va given))
 ArePathWords s _ words = ⊤
 
--- State s is one of this machine with the core in this mode, and these are the records there of all that the call tries.
+-- State s is one of this machine with the core in this mode, and these are the records there of all that the call
+-- tries.
 pub record HasRecords (shape : Shape) (core : ℕ) (mode : Mode) (call : Call) (held : Held) (s : State) : Type 0 where
   pub whole : IsWhole s
   pub machine : s.shape ≡ shape

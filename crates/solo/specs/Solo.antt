@@ -76,18 +76,28 @@ abbrev pub source_words : List ℕ → Call → List ℕ
 source_words words (calls.LoadPage e va page src perms) = words_of_page words src
 source_words words _ = []
 
--- the digest of these, zeros for other calls, which use none
+-- the digest of a call that reads no page, which uses none
 abbrev pub no_digest : List ℕ
 no_digest = replicate 32 0
 
+-- the digest of the words that a load_page copies
 abbrev pub digest_for : List ℕ → Call → List ℕ
 digest_for words (calls.LoadPage e va page src perms) = page_digest (words_of_page words src)
 digest_for words _ = no_digest
 
--- what the entry of a load_page that answers Ok says of the page: its digest, and the place of its first word among the answers
+-- what the entry of a load_page that answers Ok says of the page: its digest, and the place of its first word among the
+-- answers
 abbrev pub page_input : List ℕ → Call → ℕ → Option PageInput
-page_input words (calls.LoadPage e va page src perms) at = Some record { digest = page_digest (words_of_page words src); at = at }
+page_input words (calls.LoadPage e va page src perms) at =
+    Some record { digest = page_digest (words_of_page words src); at = at }
 page_input words _ at = None
+
+-- what the entry of a call says of a page: nothing where it is refused
+abbrev pub page_told : Core → Call → Option PageInput
+page_told c call =
+    if is_done (reply_of c.state 0 call)
+    then page_input c.words call (length c.answers + length (pte_places c call))
+    else None
 
 -- the entry of a call; the core's calls are all there are, so each draws the next ticket
 abbrev pub entry_of : Core → Call → Entry
@@ -96,7 +106,7 @@ entry_of c call = record {
   core = 0;
   serial = c.made;
   call = call;
-  page = if is_done (reply_of c.state 0 call) then page_input c.words call (length c.answers + length (pte_places c call)) else None;
+  page = page_told c call;
   reply = reply_of c.state 0 call;
   tried = tried_set (tries c.state 0 call);
 }
@@ -104,14 +114,16 @@ entry_of c call = record {
 -- the words that the call loads: the ptes, and the source of a load_page that answers Ok
 abbrev pub loaded_by : Core → Call → List ℕ
 loaded_by c call =
-    map (word_at c.words) (pte_places c call) ++ (if is_done (reply_of c.state 0 call) then source_words c.words call else [])
+    map (word_at c.words) (pte_places c call)
+    ++ (if is_done (reply_of c.state 0 call) then source_words c.words call else [])
 
 -- DRAM after Ok, where the ptes at these places were read: zeros in each page of a region that is free now; the pte
 -- of a table, whose page is not written; a copy of the source page, and then its pte; the pte of a reserved page
 abbrev pub stored : Shape → Call → List ℕ → List ℕ → List ℕ
 stored shape (calls.Free r) places words = region_cleared shape r words
 stored shape (calls.LoadTable e va level page) places words = pte_put words places (pointer_pte page)
-stored shape (calls.LoadPage e va page src perms) places words = pte_put (page_copied words src page) places (leaf_pte page perms)
+stored shape (calls.LoadPage e va page src perms) places words =
+    pte_put (page_copied words src page) places (leaf_pte page perms)
 stored shape (calls.Reserve e va page perms) places words = pte_put words places (leaf_pte page perms)
 stored shape _ places words = words
 
