@@ -1,8 +1,8 @@
 -- Who answers for the words of a region: what a call makes somebody answer for was answered for before by an object that
 -- it tries, or is freed by it.
-use Rattle.std.proofs.Common.{◌≡◌, ◌⊎◌, inl, inr, ◌∙◌, ℕ, zero, suc, Bool, true, false, cond, eqb, Option, Some, None, List, [], ◌∷◌, ap, sym, refl, subst, get_or, set}
+use Rattle.std.proofs.Common.{◌≡◌, ◌⊎◌, inl, inr, ◌∙◌, ℕ, zero, suc, Bool, true, false, cond, eqb, Some, None, List, [], ◌∷◌, ap, sym, refl, subst, get_or, set}
 use Rattle.std.specs.List.{Contains}
-use Rattle.std.proofs.lemmas.Bool.{cases_eq, eqb-true}
+use Rattle.std.proofs.lemmas.Bool.{cases_eq}
 use Rattle.mon_types.specs.Bits.{has_bit, with_bit, without_bit}
 use Rattle.mon_types.specs.Owns.{os_word}
 use Rattle.mon_types.specs.Replies.{is_done}
@@ -18,7 +18,6 @@ use Rattle.mon_types.specs.declared.thread.Mode.{Mode}
 use Rattle.mon_types.specs.declared.thread.Mode.TheVariants as modes
 use Rattle.mon_types.specs.declared.call.Call.{Call}
 use Rattle.mon_types.specs.declared.call.Call.TheVariants as calls
-use Rattle.mon_types.specs.declared.reply.Reply.{Reply}
 use Rattle.mon_types.specs.declared.reply.Reply.TheVariants as replies
 use Rattle.mon_types.specs.declared.object.ObjectId.{ObjectId}
 use Rattle.mon_types.specs.declared.object.ObjectId.TheVariants as objects
@@ -28,16 +27,18 @@ use Rattle.mon_model.specs.EnclaveCalls.{created, with_table, with_page, with_re
 use Rattle.mon_model.specs.ThreadCalls.{with_thread_loaded, without_thread}
 use Rattle.mon_model.specs.MailCalls.{with_mailbox, sent}
 use Rattle.mon_model.specs.Step.{reply_of, held_reply, after, effect, without_own_region, with_deleted, regions_of}
-use Rattle.mon_model.specs.Tries.{tries, held_tries, free_tries}
+use Rattle.mon_model.specs.Tries.{tries, held_tries}
+use Rattle.mon_model.proofs.Carried.{carried}
+use Rattle.mon_model.proofs.Tried.{behind_own, freed_in}
 use Rattle.mon_model.proofs.Bits.{none-has, with-other, without-same, without-other}
 use Rattle.mon_facts.specs.Facts.{FactsHold, is_owned_by}
+use Rattle.mon_facts.proofs.SetFacts.{owned-one}
 use Rattle.mon_model.specs.RegionStep.{is_idle}
 use Rattle.mon_records.specs.Answers.{AnswersFor, Answers, freed_where_ok, freed}
 use Rattle.mon_records.specs.AnswerLaws.{WasAnswered, IsFreed}
 use Rattle.mon_model.proofs.Writes.{at_set}
 use Rattle.mon_records.proofs.Members.{In, contains_in, in_contains}
-use Rattle.mon_records.proofs.OkCalls.{done_held, tries_held}
-use Rattle.mon_records.proofs.Early.{if_free, behind_own}
+use Rattle.mon_records.proofs.Early.{if_free, done_tries}
 
 -- ---- what is set
 
@@ -219,16 +220,16 @@ effect_answers s core (calls.Accept m from) digest k o r d a = inr (no_more s _ 
 effect_answers s core (calls.Send to m w0 w1 w2 w3) digest k o r d a = inr (no_more s _ to (with_mailbox (enclave_at s to) m (sent (own_slot (mode_of s core)) (w0 ∷ w1 ∷ w2 ∷ w3 ∷ []) (enclave_at s (own_slot (mode_of s core))).measure)) o r (λ l h. (l, h)) a)
 effect_answers s core (calls.Read m) digest k o r d a = inr (no_more s _ (own_slot (mode_of s core)) (with_mailbox (enclave_at s (own_slot (mode_of s core))) m boxes.Closed) o r (λ l h. (l, h)) a)
 effect_answers s core (calls.AcceptRegion q) digest k o r d a =
-    inr (given_answers s _ q (own_slot (mode_of s core)) (regions.Owned (owners.Enclave (own_slot (mode_of s core))) k) (gains_region (enclave_at s (own_slot (mode_of s core))) q) o r (accept_idle (own_slot (mode_of s core)) (region_at s q) d) (behind_own (mode_of s core) q) (assigned_more false s (own_slot (mode_of s core)) q r) a)
+    inr (given_answers s _ q (own_slot (mode_of s core)) (regions.Owned (owners.Enclave (own_slot (mode_of s core))) k) (gains_region (enclave_at s (own_slot (mode_of s core))) q) o r (accept_idle (own_slot (mode_of s core)) (region_at s q) d) (contains_in _ _ (behind_own (mode_of s core) q).place) (assigned_more false s (own_slot (mode_of s core)) q r) a)
 effect_answers s core _ digest k o r d a = inr (self s _ o r a)
 
 pub after_answers : (s : State) (core : ℕ) (call : Call) (digest : List ℕ) (k : ℕ) (o : ObjectId) (r : ℕ) → AnswersFor (after s core call digest k) o r → ((is_done (reply_of s core call) ≡ true) × Freed call r) ⊎ Before s (tries s core call) o r
 after_answers s core call digest k o r a = by_done (is_done (reply_of s core call)) refl a
   where
     by_done : (b : Bool) → is_done (reply_of s core call) ≡ b → AnswersFor (cond b (effect s core call digest k) s) o r → ((b ≡ true) × Freed call r) ⊎ Before s (tries s core call) o r
-    by_done true d a = elim (effect_answers s core call digest k o r (done_held s core call d) a) [
+    by_done true d a = elim (effect_answers s core call digest k o r (carried s core call d).held a) [
       | inl f ↦ inl (refl, f)
-      | inr b ↦ inr (subst (λ z. Before s z o r) (sym (tries_held s core call d)) b)
+      | inr b ↦ inr (subst (λ z. Before s z o r) (sym (done_tries s core call d)) b)
     ]
     by_done false d a = inr (self s _ o r a)
 
@@ -251,11 +252,13 @@ answered_before s core call digest k o r a = elim (after_answers s core call dig
 ]
 
 one_owner : (g : Region) (e d : ℕ) → is_owned_by e g ≡ true → is_owned_by d g ≡ true → e ≡ d
-one_owner regions.Free e d a b = absurd (cc)
-one_owner (regions.Owned owners.Os since) e d a b = absurd (cc)
-one_owner (regions.Owned (owners.Enclave x) since) e d a b = eqb-true e x a ∙ sym (eqb-true d x b)
-one_owner (regions.Blocked o since at) e d a b = absurd (cc)
-one_owner (regions.Offered to at) e d a b = absurd (cc)
+one_owner g e d a b = elim (cases_eq e d) [
+  | inl same ↦ same
+  | inr ne ↦ absurd (clash (sym (owned-one e d g b ne) ∙ a))
+]
+  where
+    clash : false ≡ true → ⊥
+    clash f = cc
 
 owned_idle : (g : Region) (e : ℕ) → is_owned_by e g ≡ true → is_idle g ≡ true → ⊥
 owned_idle regions.Free e a b = absurd (cc)
@@ -300,12 +303,6 @@ free_blocked (regions.Owned o since) flushed d = absurd (cc)
 free_blocked (regions.Blocked o since at) flushed d = (refl, λ e. refl)
 free_blocked (regions.Offered to at) flushed d = absurd (cc)
 
-free_first : (cores r : ℕ) (g : Region) → In (objects.Region r) (free_tries cores r g)
-free_first cores r regions.Free = inl refl
-free_first cores r (regions.Owned o since) = inl refl
-free_first cores r (regions.Blocked o since at) = inl refl
-free_first cores r (regions.Offered to at) = inl refl
-
 set_free : (xs : List Region) (r : ℕ) → is_idle (get_or (set xs r regions.Free) r regions.Free) ≡ true
 set_free [] r = refl
 set_free (x ∷ xs) zero = refl
@@ -325,8 +322,8 @@ nobody s r (objects.Cell c) facts a g = a
 
 free_is_freed : (s : State) (core : ℕ) (digest : List ℕ) (k r : ℕ) → FactsHold s → is_done (reply_of s core (calls.Free r)) ≡ true → IsFreed s core (calls.Free r) digest k r
 free_is_freed s core digest k r facts d = record {
-  tried = in_contains (tries s core (calls.Free r)) (objects.Region r) (subst (In (objects.Region r)) (sym (tries_held s core (calls.Free r) d)) (free_first s.shape.cores r (region_at s r)));
-  unused = λ o a. nobody s r o facts a.is (free_blocked (region_at s r) s.flushed (done_held s core (calls.Free r) d));
+  tried = subst (λ held. Contains held (objects.Region r)) (sym (done_tries s core (calls.Free r) d)) (freed_in s.shape.cores r (region_at s r)).place;
+  unused = λ o a. nobody s r o facts a.is (free_blocked (region_at s r) s.flushed (carried s core (calls.Free r) d).held);
   idle = ap (λ b. is_idle (region_at (cond b (effect s core (calls.Free r) digest k) s) r)) d ∙ set_free s.regions r;
 }
 

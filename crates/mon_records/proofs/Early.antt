@@ -19,16 +19,18 @@ use Rattle.mon_types.specs.declared.reply.Reply.{Reply}
 use Rattle.mon_types.specs.declared.reply.Reply.TheVariants as replies
 use Rattle.mon_types.specs.declared.object.ObjectId.{ObjectId}
 use Rattle.mon_types.specs.declared.object.ObjectId.TheVariants as objects
-use Rattle.mon_model.specs.State.{State, region_at, enclave_at, mode_of, with_region}
+use Rattle.mon_model.specs.State.{State, region_at, mode_of, with_region}
 use Rattle.mon_model.specs.RegionCalls.{blocked, block_reply, free_reply, assign_reply, is_empty, is_free, accept_region_reply}
 use Rattle.mon_model.specs.EnclaveCalls.{deleted}
 use Rattle.mon_model.specs.Step.{reply_of, held_reply, after, effect, assignee, without_own_region, with_deleted, regions_of}
-use Rattle.mon_model.specs.Tries.{tries, held_tries, own_enclave}
+use Rattle.mon_model.specs.Tries.{tries, held_tries}
+use Rattle.mon_model.proofs.Carried.{carried}
+use Rattle.mon_model.proofs.Tried.{behind_own}
+use Rattle.lock_plan.specs.EveryPlan.{tries_held}
 use Rattle.mon_records.specs.EarlyWords.{ReadsOwned, withdrawn_word, withdrawn_words, early_words}
 use Rattle.mon_records.specs.EarlyLaws.{early_regions}
 use Rattle.mon_model.proofs.Writes.{at_set}
-use Rattle.mon_records.proofs.Members.{In, in_contains, in_append}
-use Rattle.mon_records.proofs.OkCalls.{done_held, tries_held}
+use Rattle.mon_records.proofs.Members.{In, in_contains}
 
 -- ---- words that do not read Owned
 
@@ -51,9 +53,9 @@ all_append : {X : Type 0} (P : X → Type 0) (xs ys : List X) → AllByRecursion
 all_append P [] ys h k = k
 all_append P (x ∷ xs) ys h k = (h.0, all_append P xs ys h.1 k)
 
-pub behind_own : (mode : Mode) (r : ℕ) → In (objects.Region r) (own_enclave mode ++ objects.Region r ∷ [])
-behind_own modes.Os r = inl refl
-behind_own (modes.Inside e t) r = inr (inl refl)
+-- the objects of a call that is Ok
+pub done_tries : (s : State) (core : ℕ) (call : Call) → is_done (reply_of s core call) ≡ true → tries s core call ≡ held_tries s core call
+done_tries s core call d = tries_held s core call (carried s core call d).none
 
 word_fit : (held : List ObjectId) (r : ℕ) (g : Region) → In (objects.Region r) held → EarlyFit held (withdrawn_word r g)
 word_fit held r regions.Free m = tt
@@ -70,9 +72,9 @@ words_fit s held (r ∷ rs) sub =
 pub early_fit : (s : State) (core : ℕ) (call : Call) → is_done (reply_of s core call) ≡ true → EarlyFit (tries s core call) (early_words s call)
 unfolding early_words
 early_fit s core (calls.Block r) d =
-    ((in_contains (tries s core (calls.Block r)) (objects.Region r) (subst (In (objects.Region r)) (sym (tries_held s core (calls.Block r) d)) (behind_own (mode_of s core) r)), blocked_dead (region_at s r) 0), tt)
+    ((subst (λ held. Contains held (objects.Region r)) (sym (done_tries s core (calls.Block r) d)) (behind_own (mode_of s core) r).place, blocked_dead (region_at s r) 0), tt)
 early_fit s core (calls.Delete e) d =
-    subst (λ held. EarlyFit held (early_words s (calls.Delete e))) (sym (tries_held s core (calls.Delete e) d))
+    subst (λ held. EarlyFit held (early_words s (calls.Delete e))) (sym (done_tries s core (calls.Delete e) d))
     (words_fit s (objects.Enclave e ∷ map (λ r. objects.Region r) (regions_of s e)) (regions_of s e) (λ o h. inr h))
 early_fit s core _ d = tt
 
@@ -155,11 +157,11 @@ effect_live s core (calls.Block q) digest k r d live =
       | inr g ↦ inr g
     ]
 effect_live s core (calls.Free q) digest k r d live =
-    set_live s q r regions.Free [] (not_live s q r [] (free_dead (region_at s q) s.flushed (done_held s core (calls.Free q) d)) live)
+    set_live s q r regions.Free [] (not_live s q r [] (free_dead (region_at s q) s.flushed (carried s core (calls.Free q) d).held) live)
 effect_live s core (calls.Assign q to) digest k r d live =
-    assign_live (eqb to os_word) s _ q r _ _ [] (not_live s q r [] (assign_dead (assignee s to) (region_at s q) (done_held s core (calls.Assign q to) d)) live) refl
+    assign_live (eqb to os_word) s _ q r _ _ [] (not_live s q r [] (assign_dead (assignee s to) (region_at s q) (carried s core (calls.Assign q to) d).held) live) refl
 effect_live s core (calls.AcceptRegion q) digest k r d live =
-    set_live s q r _ [] (not_live s q r [] (accept_dead (own_slot (mode_of s core)) (region_at s q) (done_held s core (calls.AcceptRegion q) d)) live)
+    set_live s q r _ [] (not_live s q r [] (accept_dead (own_slot (mode_of s core)) (region_at s q) (carried s core (calls.AcceptRegion q) d).held) live)
 effect_live s core (calls.Delete e) digest k r d live = delete_live s s (regions_of s e) k r live
 effect_live s core _ digest k r d live = inl refl
 
@@ -242,4 +244,4 @@ effect_stays s core _ digest k d = tt
 pub early_stay : (s : State) (core : ℕ) (call : Call) (digest : List ℕ) (k : ℕ) → is_done (reply_of s core call) ≡ true → Stays (after s core call digest k) (early_words s call)
 early_stay s core call digest k d =
     let same : after s core call digest k ≡ effect s core call digest k = ap (λ b. cond b (effect s core call digest k) s) d in
-    subst (λ u. Stays u (early_words s call)) (sym same) (effect_stays s core call digest k (done_held s core call d))
+    subst (λ u. Stays u (early_words s call)) (sym same) (effect_stays s core call digest k (carried s core call d).held)

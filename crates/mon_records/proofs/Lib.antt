@@ -1,5 +1,4 @@
 pub mod Members
-pub mod OkCalls
 pub mod Items
 pub mod Readable
 pub mod RebuiltStates

@@ -1,10 +1,9 @@
 -- Every call leaves records whose numbers are in the ranges of their words.
-use Rattle.std.proofs.Common.{◌≡◌, ◌<◌, ◌∙◌, ℕ, zero, suc, Bool, true, false, cond, eqb, List, [], ◌∷◌, sym, refl, subst, get_or, set, replicate, arith, ◌++◌, inl, inr, ◌≤◌, ◌+◌, ◌-◌, ◌/◌, ◌%◌, ◌^◌, Option, Some, None, take, drop, pow-suc}
-use Rattle.std.specs.Int.{bit_at, from_le_bytes, w64}
+use Rattle.std.proofs.Common.{◌≡◌, ◌<◌, ◌∙◌, ℕ, zero, suc, Bool, true, false, cond, eqb, List, [], ◌∷◌, sym, refl, subst, get_or, set, replicate, arith, ◌++◌, inl, inr, ◌≤◌, ◌+◌, ◌-◌, ◌^◌, Option, Some, take, drop}
+use Rattle.std.specs.Int.{from_le_bytes, w64}
 use Rattle.std.specs.List.{AllByRecursion}
 use Rattle.std.proofs.lemmas.Bool.{cases_eq, eqb-false}
 use Rattle.std.proofs.lemmas.List.{get_or-drop, length-set}
-use Rattle.std.proofs.lemmas.Nat.Bits.{bit_at_lowest, bit_at-suc}
 use Rattle.mon_types.specs.Shape.{Shape, is_shape, page_total}
 use Rattle.mon_types.specs.LimitLaws.{few_regions, few_pages}
 use Rattle.mon_types.specs.Bits.{has_bit, with_bit, without_bit}
@@ -32,7 +31,7 @@ use Rattle.mon_types.specs.declared.thread.Mode.{Mode}
 use Rattle.mon_types.specs.declared.thread.Mode.TheVariants as modes
 use Rattle.mon_types.specs.declared.call.Call.{Call}
 use Rattle.mon_types.specs.declared.call.Call.TheVariants as calls
-use Rattle.mon_model.specs.State.{State, start, region_at, enclave_at, thread_at, flushed_at, mode_of, with_region, with_enclave, with_thread, with_slot}
+use Rattle.mon_model.specs.State.{State, start, region_at, enclave_at, thread_at, mode_of, with_region, with_enclave, with_thread, with_slot}
 use Rattle.mon_model.specs.RegionCalls.{blocked, assigned, with_assigned, is_initialized, gains_region, loses_region}
 use Rattle.mon_model.specs.Digests.{sha256_digest}
 use Rattle.mon_model.specs.Measure.{Item, Create, measure_created, measure_with, to_words, to_bytes, item_bytes, chain_start, extend}
@@ -41,10 +40,10 @@ use Rattle.mon_model.specs.ThreadCalls.{one_more, ready, running, stopped, left,
 use Rattle.mon_model.specs.MailCalls.{with_mailbox, sent}
 use Rattle.mon_model.specs.InRange.{IsInRange, not_refused}
 use Rattle.mon_model.specs.Step.{reply_of, after, effect, without_own_region, with_deleted, regions_of}
+use Rattle.mon_model.proofs.Carried.{carried}
 use Rattle.lock_plan.specs.Objects.{IsCaller}
 use Rattle.mon_records.specs.Ranges.{AreInRange, IsCall}
 use Rattle.mon_records.proofs.Members.{all_set}
-use Rattle.mon_records.proofs.OkCalls.{none_early}
 
 -- ---- tables
 
@@ -240,7 +239,7 @@ effect_in s core _ digest k few pages b own a c h = h
 pub after_in : (s : State) (core : ℕ) (call : Call) (digest : List ℕ) (k : ℕ) → is_shape s.shape ≡ true → IsCaller s.shape core (mode_of s core) → IsCall call → k < 2 ^ 32 → AreInRange s → AreInRange (after s core call digest k)
 after_in s core call digest k is caller c b h =
     if_in (is_done (reply_of s core call)) (effect s core call digest k) s
-    (λ d. effect_in s core call digest k (few_regions s.shape is) (few_pages s.shape is) b caller.slot (not_refused s.shape (mode_of s core) call (none_early s core call d)) c h) (λ e. h)
+    (λ d. effect_in s core call digest k (few_regions s.shape is) (few_pages s.shape is) b caller.slot (not_refused s.shape (mode_of s core) call (carried s core call d).none) c h) (λ e. h)
 
 at_start : {X : Type 0} (P : X → Type 0) (n i : ℕ) (x d : X) → P x → P d → P (get_or (replicate n x) i d)
 at_start P zero i x d p q = q

@@ -1,21 +1,18 @@
 -- What always holds of the monitor's states makes their records readable: no set has a bit past the last region, and no
 -- root is past the last page.
-use Rattle.std.proofs.Common.{◌≡◌, ◌≢◌, inl, inr, ◌<◌, ◌≤◌, ◌+◌, ◌-◌, ◌*◌, ◌/◌, ◌%◌, ◌^◌, ◌∙◌, ℕ, zero, suc, Bool, true, false, Option, Some, None, List, [], ◌∷◌, length, ap, sym, refl, subst, get_or, arith, pow-suc}
+use Rattle.std.proofs.Common.{◌≡◌, ◌≢◌, inl, inr, ◌<◌, ◌≤◌, ◌+◌, ◌-◌, ◌/◌, ◌%◌, ◌^◌, ◌∙◌, ℕ, zero, suc, false, Option, Some, None, List, [], ◌∷◌, length, ap, refl, subst, get_or, arith, pow-suc}
 use Rattle.std.specs.Int.{bit_at}
 use Rattle.std.proofs.lemmas.Bool.{eqb-false, cases_eq}
 use Rattle.std.proofs.lemmas.Nat.Bits.{bit_at_lowest, bit_at-suc}
-use Rattle.mon_types.specs.Shape.{Shape, is_shape, page_total}
 use Rattle.mon_types.specs.Bits.{has_bit}
 use Rattle.mon_types.specs.LimitLaws.{few_regions}
-use Rattle.mon_types.specs.Enclaves.{enclave_within}
 use Rattle.mon_types.specs.RowLaws.{HasRootWithin}
 use Rattle.mon_types.proofs.EnclaveRows.{within_same}
-use Rattle.mon_types.specs.declared.enclave.Enclave.{Enclave}
 use Rattle.mon_types.specs.declared.region.Region.{Region}
 use Rattle.mon_types.specs.declared.region.Region.TheVariants as regions
 use Rattle.mon_model.specs.State.{State, region_at, enclave_at}
 use Rattle.mon_facts.specs.Tables.{AreTables}
-use Rattle.mon_facts.specs.Facts.{FactsHold, is_owned_by, IsRootPlaced}
+use Rattle.mon_facts.specs.Facts.{FactsHold, is_owned_by}
 use Rattle.mon_records.specs.Ranges.{AreInRange}
 use Rattle.mon_records.specs.RebuiltLaws.{IsReadable}
 

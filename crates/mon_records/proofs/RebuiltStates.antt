@@ -1,5 +1,5 @@
 -- The state rebuilt from the words that a call has read, against every state that has these rows.
-use Rattle.std.proofs.Common.{◌≡◌, inl, inr, ◌<◌, ◌^◌, ◌∙◌, ℕ, Bool, true, false, cond, Option, Some, None, List, [], ◌∷◌, ◌++◌, length, ap, sym, refl, subst, arith}
+use Rattle.std.proofs.Common.{◌≡◌, inl, inr, ◌<◌, ◌^◌, ◌∙◌, ℕ, true, false, cond, Option, Some, None, List, [], ◌∷◌, ◌++◌, length, ap, sym, refl, subst, arith}
 use Rattle.std.specs.Prelude.{slice_get}
 use Rattle.std.specs.List.{Contains}
 use Rattle.std.proofs.lemmas.Bool.{eqb-true, eq-eqb, cases_Bool}
@@ -12,7 +12,6 @@ use Rattle.mon_types.specs.Threads.{empty_thread, thread_row, thread_from}
 use Rattle.mon_types.specs.Cells.{cell_row, cell_from}
 use Rattle.mon_types.specs.Objects.{width}
 use Rattle.mon_types.specs.Modes.{own_slot, own_thread}
-use Rattle.mon_types.specs.Replies.{is_done}
 use Rattle.mon_types.proofs.Rows.{fitting_is}
 use Rattle.mon_types.proofs.RegionRows.{region_back}
 use Rattle.mon_types.proofs.EnclaveRows.{enclave_back, enclave_long}
@@ -27,7 +26,7 @@ use Rattle.mon_types.specs.declared.reply.Reply.{Reply}
 use Rattle.mon_types.specs.declared.enclave.Loaded.{Loaded}
 use Rattle.mon_types.specs.declared.object.ObjectId.{ObjectId}
 use Rattle.mon_types.specs.declared.object.ObjectId.TheVariants as objects
-use Rattle.mon_model.specs.State.{State, IsWhole, region_at, enclave_at, thread_at, flushed_at, loaded_at, mode_of}
+use Rattle.mon_model.specs.State.{State, IsWhole, region_at, enclave_at, thread_at, flushed_at, mode_of}
 use Rattle.mon_model.specs.Early.{early}
 use Rattle.mon_model.specs.Step.{reply_of, after}
 use Rattle.mon_model.specs.Tries.{tries, held_tries, unless_refused, own_enclave, free_tries, send_tries}
@@ -39,10 +38,10 @@ use Rattle.lock_plan.specs.EveryPlan.{first_settles}
 use Rattle.lock_plan.proofs.Order.{tries_ascend}
 use Rattle.mon_records.specs.Rows.{Found, row_words, objects_of, same_object, words_of}
 use Rattle.mon_records.specs.Rebuilt.{found_region, found_enclave, found_thread, found_cell, state_of}
-use Rattle.mon_records.specs.Changed.{changed, without_items, IsDecidedByRecords}
+use Rattle.mon_records.specs.Changed.{changed, IsDecidedByRecords}
 use Rattle.mon_records.specs.RebuiltLaws.{IsReadable, AreRowsOf, HasFound, rebuilt}
 use Rattle.mon_records.proofs.Members.{In, contains_in, in_contains}
-use Rattle.mon_records.proofs.Items.{same_tries, same_reply, same_rows, with_items, other_items, with_items_tries, with_items_change}
+use Rattle.mon_records.proofs.Items.{same_reply, same_rows, with_items, other_items, with_items_tries, with_items_change}
 
 -- ---- the words that were found
 
@@ -78,9 +77,6 @@ words_known (p ∷ ps) s o rows h = elim (cases_Bool (same_object p.0 o)) [
 -- ---- the rebuilt records
 
 module _ (s : State) (core : ℕ) (found : Found) (can : IsReadable s) (rows : AreRowsOf s found) where
-  abbrev known : State
-  known = rebuilt s core found
-
   region_known : (r : ℕ) → In (objects.Region r) (objects_of found) → r < s.shape.regions → region_at (rebuilt s core found) r ≡ region_at s r
   unfolding state_of row_words
   region_known r h l =
@@ -148,9 +144,9 @@ full_agrees s core call found can h =
       mode = known_mode s.shape core (mode_of s core) found h.caller.there;
     }
 
-full_whole : (s known : State) → IsWhole s → IsWhole known → IsWhole (with_items known s.loaded)
+full_whole : (s built : State) → IsWhole s → IsWhole built → IsWhole (with_items built s.loaded)
 unfolding with_items
-full_whole s known h k = record { regions = k.regions; enclaves = k.enclaves; threads = k.threads; flushed = k.flushed; modes = k.modes; loaded = h.loaded }
+full_whole s built h k = record { regions = k.regions; enclaves = k.enclaves; threads = k.threads; flushed = k.flushed; modes = k.modes; loaded = h.loaded }
 
 same_call : (s : State) (core : ℕ) (call : Call) (found : Found) (digest : List ℕ) (k : ℕ) → IsReadable s → HasFound s core call found → SameCall s (with_items (rebuilt s core found) s.loaded) core call digest k
 same_call s core call found digest k can h =

@@ -4,6 +4,7 @@ use Rattle.std.specs.List.{AllByRecursion, Contains}
 use Rattle.mon_types.specs.Owns.{own_word}
 use Rattle.mon_types.specs.Replies.{is_done}
 use Rattle.mon_types.specs.declared.call.Call.{Call}
+use Rattle.mon_types.specs.declared.object.ObjectId.{ObjectId}
 use Rattle.mon_types.specs.declared.object.ObjectId.TheVariants as objects
 use Rattle.mon_model.specs.State.{State, region_at}
 use Rattle.mon_model.specs.Step.{reply_of, after}
@@ -14,11 +15,15 @@ use Rattle.mon_records.specs.EarlyWords.{early_words, ReadsOwned}
 abbrev pub early_regions : State → Call → List ℕ
 early_regions s call = map (λ p. p.0) (early_words s call)
 
--- a call that is Ok tries each region that gets one, and none of them reads Owned
+-- the word's region is among those that are tried, and the word does not read Owned
+abbrev pub IsEarlyFor : List ObjectId → ℕ × ℕ → Type 0
+IsEarlyFor tried p = Contains tried (objects.Region p.0) × (ReadsOwned p.1 → ⊥)
+
+-- so it is of each early word of a call that is Ok
 abbrev pub EarlyWordsFit : Type 0
 EarlyWordsFit =
     (s : State) (core : ℕ) (call : Call) → is_done (reply_of s core call) ≡ true
-    → AllByRecursion (λ p. Contains (tries s core call) (objects.Region p.0) × (ReadsOwned p.1 → ⊥)) (early_words s call)
+    → AllByRecursion (IsEarlyFor (tries s core call)) (early_words s call)
 
 -- each is the region's own-word after the call
 abbrev pub EarlyWordsStay : Type 0

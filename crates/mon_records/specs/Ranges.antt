@@ -1,5 +1,5 @@
 -- Records whose numbers are in the ranges of their words, and calls whose numbers are words. This project's own.
-use Rattle.std.specs.Prelude.{◌≡◌, ℕ, ◌^◌, ◌<◌, ⊤, List, length}
+use Rattle.std.specs.Prelude.{◌≡◌, ℕ, ◌^◌, ◌<◌, ⊤, length}
 use Rattle.std.specs.List.{AllByRecursion}
 use Rattle.mon_types.specs.Owns.{IsRegion}
 use Rattle.mon_types.specs.Enclaves.{IsEnclave}

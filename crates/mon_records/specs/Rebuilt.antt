@@ -1,6 +1,6 @@
 -- The state that a call rebuilds from the rows that it has found. Nothing is said of the records that it has not found,
 -- and no items are known. This project's own.
-use Rattle.std.specs.Prelude.{ℕ, List, [], map, replicate}
+use Rattle.std.specs.Prelude.{ℕ, [], map, replicate}
 use Rattle.std.specs.List.{range_with_len}
 use Rattle.mon_types.specs.Shape.{Shape}
 use Rattle.mon_types.specs.Owns.{region_from}
