@@ -1,5 +1,5 @@
 -- Members of a list by recursion, and what a list has at a number.
-use Rattle.std.proofs.Common.{◌≡◌, ◌⊎◌, inl, inr, ◌<◌, ℕ, zero, suc, List, [], ◌∷◌, length, sym, refl, get_or, set, arith}
+use Rattle.std.proofs.Common.{◌≡◌, ◌⊎◌, inl, inr, ◌<◌, ℕ, zero, suc, List, [], ◌∷◌, length, sym, get_or, set, arith}
 use Rattle.std.specs.List.{Contains}
 use Rattle.mon_model.proofs.Writes.{at_any}
 
@@ -22,7 +22,6 @@ in_contains (y ∷ ys) x h = elim h [
   | inl e ↦ (0, omega arith, sym e)
   | inr m ↦ let c = in_contains ys x m in (suc c.0, omega (arith, c.1), c.2)
 ]
-
 
 -- where all have it, all have it once one that has it was set
 pub all_set : {X : Type 0} (P : X → Type 0) (xs : List X) (i : ℕ) (x d : X) → P x → ((j : ℕ) → P (get_or xs j d)) → (j : ℕ) → P (get_or (set xs i x) j d)

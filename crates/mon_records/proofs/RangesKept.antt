@@ -38,7 +38,8 @@ use Rattle.mon_model.specs.Measure.{Item, Create, measure_created, measure_with,
 use Rattle.mon_model.specs.EnclaveCalls.{created, deleted}
 use Rattle.mon_model.specs.ThreadCalls.{one_more, ready, running, stopped, left, left_saving, restored}
 use Rattle.mon_model.specs.MailCalls.{with_mailbox, sent}
-use Rattle.mon_model.specs.InRange.{IsInRange, not_refused}
+use Rattle.mon_model.specs.InRange.{IsInRange}
+use Rattle.mon_model.proofs.InRange.{in_range}
 use Rattle.mon_model.specs.Step.{reply_of, after, effect, without_own_region, with_deleted, regions_of}
 use Rattle.mon_model.proofs.Carried.{carried}
 use Rattle.lock_plan.specs.Objects.{IsCaller}
@@ -239,7 +240,7 @@ effect_in s core _ digest k few pages b own a c h = h
 pub after_in : (s : State) (core : ℕ) (call : Call) (digest : List ℕ) (k : ℕ) → is_shape s.shape ≡ true → IsCaller s.shape core (mode_of s core) → IsCall call → k < 2 ^ 32 → AreInRange s → AreInRange (after s core call digest k)
 after_in s core call digest k is caller c b h =
     if_in (is_done (reply_of s core call)) (effect s core call digest k) s
-    (λ d. effect_in s core call digest k (few_regions s.shape is) (few_pages s.shape is) b caller.slot (not_refused s.shape (mode_of s core) call (carried s core call d).none) c h) (λ e. h)
+    (λ d. effect_in s core call digest k (few_regions s.shape is) (few_pages s.shape is) b caller.slot (in_range s.shape call (carried s core call d).value) c h) (λ e. h)
 
 at_start : {X : Type 0} (P : X → Type 0) (n i : ℕ) (x d : X) → P x → P d → P (get_or (replicate n x) i d)
 at_start P zero i x d p q = q

@@ -165,12 +165,21 @@ pub rebuilt_tries : (s : State) (core : ℕ) (call : Call) (found : Found) → I
 rebuilt_tries s core call found can h =
     sym (with_items_tries (rebuilt s core found) s.loaded core call) ∙ (same_call s core call found [] 0 can h).objects
 
-agreed_row : (s t : State) (core : ℕ) (tried : List ObjectId) → AgreeOn s t core tried → (o : ObjectId) → Contains tried o → row_words t o ≡ row_words s o
+pub agreed_row : (s t : State) (core : ℕ) (tried : List ObjectId) → AgreeOn s t core tried → (o : ObjectId) → Contains tried o → row_words t o ≡ row_words s o
 unfolding row_words
 agreed_row s t core tried h (objects.Enclave e) m = ap enclave_row (h.enclave e m)
 agreed_row s t core tried h (objects.Thread i) m = ap thread_row (h.thread i m)
 agreed_row s t core tried h (objects.Region r) m = ap region_row (h.region r m)
 agreed_row s t core tried h (objects.Cell c) m = ap cell_row (h.cell c m)
+
+pub found_stays : (s t : State) (core : ℕ) (tried : List ObjectId) (found : Found) → AgreeOn s t core tried → ((o : ObjectId) → Contains (objects_of found) o → Contains tried o) → AreRowsOf s found → AreRowsOf t found
+unfolding objects_of
+found_stays s t core tried [] agree sub rows = tt
+found_stays s t core tried (p ∷ ps) agree sub rows =
+    let first : Contains tried p.0 = sub p.0 (in_contains (objects_of (p ∷ ps)) p.0 (inl refl)) in (
+      rows.0 ∙ sym (agreed_row s t core tried agree p.0 first),
+      found_stays s t core tried ps agree (λ o m. sub o (in_contains (objects_of (p ∷ ps)) o (inr (contains_in (objects_of ps) o m)))) rows.1,
+    )
 
 pub rebuilt_changes : (s : State) (core : ℕ) (call : Call) (found : Found) (digest : List ℕ) (k : ℕ) (o : ObjectId) → IsReadable s → HasFound s core call found → Contains (tries s core call) o → row_words (changed (reply_of s core call) (rebuilt s core found) core call digest k) o ≡ row_words (after s core call digest k) o
 rebuilt_changes s core call found digest k o can h m =

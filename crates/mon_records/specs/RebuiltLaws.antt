@@ -9,6 +9,7 @@ use Rattle.mon_types.specs.declared.object.ObjectId.{ObjectId}
 use Rattle.mon_model.specs.State.{State, IsWhole, enclave_at, mode_of}
 use Rattle.mon_model.specs.Step.{reply_of, after}
 use Rattle.mon_model.specs.Tries.{tries}
+use Rattle.mon_model.specs.Laws.{AgreeOn}
 use Rattle.mon_facts.specs.Tables.{AreTables}
 use Rattle.mon_facts.specs.Facts.{FactsHold}
 use Rattle.lock_plan.specs.Objects.{IsCaller}
@@ -36,6 +37,13 @@ RowsAreLong = (s : State) (o : ObjectId) → IsReadable s → length (row_words 
 -- what was found are rows of this state
 abbrev pub AreRowsOf : State → Found → Type 0
 AreRowsOf s found = AllByRecursion (λ p. p.1 ≡ row_words s p.0) found
+
+-- so they are of every state that agrees on the objects
+abbrev pub FoundStays : Type 0
+FoundStays =
+    (s t : State) (core : ℕ) (tried : List ObjectId) (found : Found)
+    → AgreeOn s t core tried → ((o : ObjectId) → Contains (objects_of found) o → Contains tried o)
+    → AreRowsOf s found → AreRowsOf t found
 
 -- a core of the machine has found the rows of the objects that its call tries in this state
 pub record HasFound (s : State) (core : ℕ) (call : Call) (found : Found) : Type 0 where

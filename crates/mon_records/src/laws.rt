@@ -1,6 +1,6 @@
 //! The laws, subject by subject.
 
-ghost use Rattle.mon_records.specs.RebuiltLaws.{FactsMakeReadable, RowsAreLong, RebuiltAnswers, RebuiltTries, RebuiltChanges, NothingFoundBegins, FirstFoundSettles};
+ghost use Rattle.mon_records.specs.RebuiltLaws.{FactsMakeReadable, RowsAreLong, FoundStays, RebuiltAnswers, RebuiltTries, RebuiltChanges, NothingFoundBegins, FirstFoundSettles};
 ghost use Rattle.mon_records.specs.ItemLaws.{TriesWithoutItems, AnswersWithoutItems, ChangesWithoutItems, RowsWithoutItems};
 ghost use Rattle.mon_records.specs.RangeLaws.{StartIsInRange, RecordsStayInRange};
 ghost use Rattle.mon_records.specs.EarlyLaws.{EarlyWordsFit, EarlyWordsStay, ChangedOwnedAreEarly};
@@ -15,13 +15,14 @@ pub fn states_are_readable()
 
 /// The state that is rebuilt from the rows that a call has found stands for every state that has them,
 /// whatever is loaded there: it answers the same, tries the same and makes the same rows. Its plan is
-/// right from the first object on.
+/// right from the first object on, and what was found stays right as long as those objects do.
 pub fn rebuilt_states_stand_for_all()
     ensures answers { RebuiltAnswers }
     ensures objects { RebuiltTries }
     ensures rows { RebuiltChanges }
     ensures begins { NothingFoundBegins }
     ensures settles { FirstFoundSettles }
+    ensures stays { FoundStays }
 {}
 
 /// Without its items a state tries the same objects, answers the same where records decide, and makes the

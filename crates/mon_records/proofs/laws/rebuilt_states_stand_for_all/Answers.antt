@@ -1,4 +1,4 @@
-use Rattle.mon_records.proofs.RebuiltStates.{rebuilt_answers, rebuilt_tries, rebuilt_changes, nothing_found, first_found}
+use Rattle.mon_records.proofs.RebuiltStates.{rebuilt_answers, rebuilt_tries, rebuilt_changes, nothing_found, first_found, found_stays}
 use Rattle.mon_records.proofs.laws.rebuilt_states_stand_for_all.Goals as goal
 
 pub returns-clause-answers : goal.returns-clause-answers
@@ -15,3 +15,6 @@ returns-clause-begins c = nothing_found
 
 pub returns-clause-settles : goal.returns-clause-settles
 returns-clause-settles c = first_found
+
+pub returns-clause-stays : goal.returns-clause-stays
+returns-clause-stays c = found_stays
