@@ -25,6 +25,7 @@ own core h = filter (λ e. e.core == core) h
 abbrev pub call_with_serial : List Entry → ℕ → ℕ → Option Entry
 call_with_serial h core serial = find (λ e. e.core == core && e.serial == serial) h
 
+-- the one before it, if there is one
 abbrev pub call_before : List Entry → ℕ → ℕ → Option Entry
 call_before h core zero = None
 call_before h core (suc serial) = call_with_serial h core serial

@@ -31,17 +31,20 @@ Field failing number P = HoldsUnless (failing == number) P
 
 -- ---- Legal
 
+-- `Legal`, but for this field
 pub record LegalBut (failing : ℕ) (shape : Shape) (logs : List (List Event)) : Type 0 where
   pub count : Field failing 0 (length logs ≡ shape.cores)
   pub tickets : Field failing 1 (AreTickets 1 (history logs))
   pub own : Field failing 2 (AreOwnLogs logs)
   pub entries : Field failing 3 (AreLegalEntries (start shape) (history logs))
 
+-- `IsNextOwn`, but for this field
 pub record NextBut (failing owner next before : ℕ) (e : Entry) : Type 0 where
   pub core : Field failing 0 (e.core ≡ owner)
   pub serial : Field failing 1 (e.serial ≡ next)
   pub ascends : Field failing 2 (before < e.ticket)
 
+-- `IsLegalEntry`, but for this field
 pub record EntryBut (failing : ℕ) (s : State) (e : Entry) : Type 0 where
   pub reply : Field failing 0 (is_concurrent e.reply ≡ false
       → e.reply ≡ (monitor_step s e.core e.call (digest_of e.page) e.ticket).1)
@@ -50,11 +53,13 @@ pub record EntryBut (failing : ℕ) (s : State) (e : Entry) : Type 0 where
 
 -- ---- Busy
 
+-- `Busy`, but for this field
 pub record BusyBut (failing : ℕ) (shape : Shape) (logs : List (List Event)) (now : ℕ → UnderWay) : Type 0 where
   pub entries : Field failing 0 (AreRightlyBusy shape (history logs) now (history logs))
   pub refused : Field failing 1 ((core : ℕ) → core < shape.cores
       → AreRightlyBusy shape (history logs) now (as_entry (history logs) core (now core)))
 
+-- `MetHeldLock`, but for this field
 pub record LockBut (failing : ℕ) (shape : Shape) (h : List Entry) (now : ℕ → UnderWay) (e : Entry) (lock : ObjectId)
     (holder serial : ℕ) : Type 0 where
   pub core : Field failing 0 (holder < shape.cores)
@@ -64,17 +69,20 @@ pub record LockBut (failing : ℕ) (shape : Shape) (h : List Entry) (now : ℕ �
   pub begun : Field failing 4 (HasBegun h e holder serial)
   pub under_way : Field failing 5 (WasNotOver h e holder serial)
 
+-- `HasTaken`, but for this field
 pub record TakenBut (failing : ℕ) (lock : ObjectId) (e : Entry) : Type 0 where
   pub tried : Field failing 0 (IsTrue (has_tried e.tried lock))
   pub another : Field failing 1 ((holder serial : ℕ) → e.reply ≢ replies.ConcurrentCall lock holder serial)
 
 -- ---- SafeLog
 
+-- `IsTouch`, but for this field
 pub record TouchBut (failing : ℕ) (shape : Shape) (h : List Entry) (before : List Event) (r a : ℕ)
     (behind : List Event) : Type 0 where
   pub region : Field failing 0 (r < shape.regions)
   pub period : Field failing 1 (IsSomeAnd (period_in h r a) (IsSafeTouch before (events.Touch r a) behind))
 
+-- `IsSafeTouch`, but for this field
 pub record SafeTouchBut (failing : ℕ) (before : List Event) (touch : Event) (behind : List Event)
     (p : Period) : Type 0 where
   pub before_block : Field failing 0 (IfSome p.blocked (λ b. AllByRecursion (λ e. e.ticket < b) (entries_of before)))

@@ -16,6 +16,7 @@ entry_in (events.Entry e) = e ∷ []
 entry_in (events.Touch region since) = []
 entry_in (events.Stop line why) = []
 
+-- the monitor calls of a log, in its order
 abbrev pub entries_of : List Event → List Entry
 entries_of log = flat_map entry_in log
 
@@ -24,6 +25,7 @@ abbrev pub placed : Entry → List Entry → List Entry
 placed e [] = e ∷ []
 placed e (x ∷ xs) = if nat_lt e.ticket x.ticket then e ∷ x ∷ xs else x ∷ placed e xs
 
+-- all entries of a list in ticket order
 abbrev pub in_ticket_order : List Entry → List Entry
 in_ticket_order [] = []
 in_ticket_order (e ∷ es) = placed e (in_ticket_order es)
@@ -47,6 +49,7 @@ after_entry s e =
     if is_concurrent e.reply then s
     else (monitor_step s e.core e.call (digest_of e.page) e.ticket).0
 
+-- the state after these entries, one after the other
 abbrev pub after_entries : State → List Entry → State
 after_entries s [] = s
 after_entries s (e ∷ es) = after_entries (after_entry s e) es

@@ -32,6 +32,7 @@ EachLogIsItsPart = (shape : Shape) (logs : List (List Event)) → Legal shape lo
 abbrev pub UntouchedIsCleared : Type 0
 UntouchedIsCleared = (r a : ℕ) (log : List Event) → is_touched r a log ≡ false → ClearedSince (events.Touch r a) log
 
+-- and the other way round
 abbrev pub ClearedIsUntouched : Type 0
 ClearedIsUntouched = (r a : ℕ) (log : List Event) → ClearedSince (events.Touch r a) log → is_touched r a log ≡ false
 

@@ -44,6 +44,7 @@ pub record IsLegalEntry (s : State) (e : Entry) : Type 0 where
   pub tried : is_concurrent e.reply ≡ false → e.tried ≡ tried_set (tries s e.core e.call)
   pub page : is_some e.page ≡ has_its_page e
 
+-- these entries from state s on, each in the state that those before it leave
 abbrev pub AreLegalEntries : State → List Entry → Type 0
 AreLegalEntries s [] = Unit {0}
 AreLegalEntries s (e ∷ es) = IsLegalEntry s e × AreLegalEntries (after_entry s e) es

@@ -30,6 +30,7 @@ pub record CanMerge (logs : List (List Event)) : Type 0 where
 
 -- ---- inside a merge, where these events of each log are left
 
+-- the entries that are left of one log
 abbrev pub entries_left : Bor (List Event) → List Entry
 entries_left rest = entries_of rest.now
 
@@ -44,6 +45,7 @@ BeginsWithEntry (events.Entry e ∷ later) = Unit {0}
 BeginsWithEntry (events.Touch region since ∷ later) = ⊥
 BeginsWithEntry (events.Stop line why ∷ later) = ⊥
 
+-- what holds of the rests of all logs: they can be merged, and each begins with an entry
 pub record AreStillLeft (rests : List (Bor (List Event))) : Type 0 where
   pub apart : AreApart (map entries_left rests)
   pub begin : AllByRecursion (λ rest. BeginsWithEntry rest.now) rests

@@ -31,6 +31,7 @@ owner_by r initialized e = if is_done e.reply then owner_made r initialized e.ca
 abbrev pub entry_at : List Entry → ℕ → Option Entry
 entry_at h ticket = find (λ e. e.ticket == ticket) h
 
+-- the entries with lower tickets
 abbrev pub entries_below : List Entry → ℕ → List Entry
 entries_below h ticket = filter (λ e. nat_lt e.ticket ticket) h
 
@@ -60,6 +61,7 @@ period_with h r a owner =
     let z = option_and_then (λ at. ticket_after h at (is_freeing r)) b in
     record { region = r; owner = owner; since = a; blocked = b; freed = z }
 
+-- the period (r, a) of a history, if one began there
 abbrev pub period_in : List Entry → ℕ → ℕ → Option Period
 period_in h r a = option_map (period_with h r a) (owner_of_period h r a)
 

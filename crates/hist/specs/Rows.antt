@@ -21,6 +21,7 @@ use Rattle.hist.specs.Busy.{UnderWay, Nothing, Taking, Refused}
 
 -- ---- entries
 
+-- an entry of these parts
 abbrev pub entry_with : Option PageInput → ℕ → ℕ → ℕ → Call → Reply → List ObjectId → Entry
 entry_with page ticket core serial call reply tried =
     record {
@@ -33,6 +34,7 @@ entry_with page ticket core serial call reply tried =
       tried = tried_set tried;
     }
 
+-- one that read no page
 abbrev pub entry : ℕ → ℕ → ℕ → Call → Reply → List ObjectId → Entry
 entry ticket core serial call reply tried = entry_with None ticket core serial call reply tried
 
@@ -40,6 +42,7 @@ entry ticket core serial call reply tried = entry_with None ticket core serial c
 abbrev pub block_3 : ℕ → ℕ → ℕ → Entry
 block_3 ticket core serial = entry ticket core serial (calls.Block 3) done (r3 ∷ [])
 
+-- an Ok flush
 abbrev pub flushed : ℕ → ℕ → ℕ → Entry
 flushed ticket core serial = entry ticket core serial calls.Flush done (objects.Cell core ∷ [])
 
@@ -47,9 +50,11 @@ flushed ticket core serial = entry ticket core serial calls.Flush done (objects.
 abbrev pub free_3 : ℕ → ℕ → ℕ → Entry
 free_3 ticket core serial = entry ticket core serial (calls.Free 3) done (r3 ∷ c0 ∷ [])
 
+-- an Ok free of region 3 on two cores
 abbrev pub both_freed : ℕ → ℕ → ℕ → Entry
 both_freed ticket core serial = entry ticket core serial (calls.Free 3) done (r3 ∷ c0 ∷ c1 ∷ [])
 
+-- one that is refused
 abbrev pub not_freed : ℕ → ℕ → ℕ → Entry
 not_freed ticket core serial = entry ticket core serial (calls.Free 3) replies.NotFlushed (r3 ∷ c0 ∷ c1 ∷ [])
 
@@ -57,9 +62,11 @@ not_freed ticket core serial = entry ticket core serial (calls.Free 3) replies.N
 abbrev pub assigned_to_os : ℕ → ℕ → ℕ → Entry
 assigned_to_os ticket core serial = entry ticket core serial (calls.Assign 3 os_word) done (r3 ∷ [])
 
+-- an Ok create of enclave 0
 abbrev pub create_0 : ℕ → ℕ → ℕ → Entry
 create_0 ticket core serial = entry ticket core serial (calls.Create 0 65536 16384) done (objects.Enclave 0 ∷ [])
 
+-- an Ok assign of region 3 to enclave 0
 abbrev pub assigned_to_0 : ℕ → ℕ → ℕ → Entry
 assigned_to_0 ticket core serial = entry ticket core serial (calls.Assign 3 0) done (objects.Enclave 0 ∷ r3 ∷ [])
 
@@ -103,10 +110,12 @@ moved_touch =
 abbrev pub met_under_way : List (List Event)
 met_under_way = [] ∷ logged (met 1 1 0 0 0 ∷ []) ∷ []
 
+-- core 0 has taken region 3 and not drawn yet
 abbrev pub holds_now : ℕ → UnderWay
 holds_now zero = Taking (r3 ∷ [])
 holds_now (suc core) = Nothing
 
+-- and core 1 has met its lock
 abbrev pub meets_now : ℕ → UnderWay
 meets_now zero = Taking (r3 ∷ [])
 meets_now (suc core) = Refused (calls.Block 3) [] r3 0 0

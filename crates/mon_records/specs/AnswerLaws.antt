@@ -34,6 +34,7 @@ pub record IsFreed (s : State) (core : ℕ) (call : Call) (digest : List ℕ) (t
   pub unused : (o : ObjectId) → Answers s o r → ⊥
   pub idle : is_idle (region_at (after s core call digest ticket) r) ≡ true
 
+-- so it is of every region that a call frees
 abbrev pub FreedRegions : Type 0
 FreedRegions =
     (s : State) (core : ℕ) (call : Call) (digest : List ℕ) (ticket r : ℕ)

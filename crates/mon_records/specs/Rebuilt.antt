@@ -19,12 +19,15 @@ use Rattle.mon_records.specs.Rows.{Found, words_of}
 abbrev pub found_region : Found → ℕ → Region
 found_region found r = region_from (words_of found (objects.Region r))
 
+-- of each enclave slot, without what lies past the end of the machine
 abbrev pub found_enclave : Shape → Found → ℕ → Enclave
 found_enclave shape found e = enclave_within shape (enclave_from (words_of found (objects.Enclave e)))
 
+-- of each thread slot
 abbrev pub found_thread : Found → ℕ → Thread
 found_thread found t = thread_from (words_of found (objects.Thread t))
 
+-- of each core's cell
 abbrev pub found_cell : Found → ℕ → ℕ
 found_cell found c = cell_from (words_of found (objects.Cell c))
 

@@ -63,6 +63,7 @@ mode_now c = mode_of c.state 0
 
 -- ---- a monitor call
 
+-- these places, none where the call is refused early
 abbrev pub unless_early : Option Reply → List ℕ → List ℕ
 unless_early None places = places
 unless_early (Some refusal) places = []
@@ -156,11 +157,12 @@ tick_made (modes.Inside e t) c = called c (calls.Aex (saved_context c.contexts.c
 abbrev pub with_current : Core → Context → Core
 with_current c context = record c { contexts = record c.contexts { current = context } }
 
--- the pc and a register are set for the OS alone
+-- the pc is set for the OS alone
 abbrev pub pc_set : Mode → Core → ℕ → Core
 pc_set modes.Os c pc = with_current c (record c.contexts.current { pc = pc })
 pc_set (modes.Inside e t) c pc = c
 
+-- and a register
 abbrev pub reg_set : Mode → Core → ℕ → ℕ → Core
 reg_set modes.Os c x value = with_current c (with_register c.contexts.current x value)
 reg_set (modes.Inside e t) c x value = c
@@ -204,9 +206,10 @@ finished_by c = record {
   words = c.words;
 }
 
--- the finished run of these lines on a machine of one core that starts so, and its report
+-- the finished run of these lines on a machine of one core that starts so
 abbrev pub solo_run : Shape → Start → List Line → Finished
 solo_run shape first script = finished_by (core_from (core_start shape first) 1 script)
 
+-- its report
 abbrev pub solo_report : Shape → Start → List Line → List ℕ
 solo_report shape first script = report_text (solo_run shape first script)
