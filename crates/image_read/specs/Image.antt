@@ -15,7 +15,8 @@ use Rattle.mon_types.specs.declared.image.Start.{Start}
 -- the base-two logarithm of a number of regions or pages; 0 for 1 and for what is no such number
 abbrev pub log2_of : ℕ → ℕ
 log2_of n =
-    if n == 2 then 1 else if n == 4 then 2 else if n == 8 then 3 else if n == 16 then 4 else if n == 32 then 5 else if n == 64 then 6 else 0
+    if n == 2 then 1 else if n == 4 then 2 else if n == 8 then 3 else if n == 16 then 4
+    else if n == 32 then 5 else if n == 64 then 6 else 0
 
 -- how every image begins
 unfoldable pub magic : List ℕ
@@ -25,7 +26,9 @@ magic = codes "SANCTUM"
 -- region, the shift, and in 2 bytes the number of segments; the last 2 bytes are zero
 abbrev pub head_text : ℕ → Shape → ℕ → List ℕ
 head_text version shape segments =
-    magic ++ version ∷ shape.cores ∷ log2_of shape.regions ∷ log2_of shape.pages ∷ shape.shift ∷ to_le_bytes w16 segments ++ 0 ∷ 0 ∷ []
+    magic
+    ++ version ∷ shape.cores ∷ log2_of shape.regions ∷ log2_of shape.pages ∷ shape.shift ∷ to_le_bytes w16 segments
+    ++ 0 ∷ 0 ∷ []
 
 -- where a core starts: its pc, then its stack pointer, in 8 bytes each
 abbrev pub start_text : Start → List ℕ
@@ -45,7 +48,9 @@ segment_text s = segment_head s ++ words_text s.words
 -- all but the digest
 abbrev pub body_text : ℕ → Image → List ℕ
 body_text version image =
-    head_text version image.config (length image.segments) ++ flat_map start_text image.starts ++ flat_map segment_text image.segments
+    head_text version image.config (length image.segments)
+    ++ flat_map start_text image.starts
+    ++ flat_map segment_text image.segments
 
 -- what stands behind the body: in version 2 its SHA-256 (FIPS 180-4), in version 1 nothing
 abbrev pub digest_text : ℕ → List ℕ → List ℕ

@@ -38,7 +38,8 @@ plain_start = record { pc = dram_start; sp = 0 }
 abbrev pub plain_run : List Line → Finished
 plain_run script = solo_run (plain 1) plain_start script
 
--- The text is the report of the script's run on the plain machine with one core, whose log is a legal history of the sequential monitor, and whose tables are those that the history leaves.
+-- The text is the report of the script's run on the plain machine with one core, whose log is a legal history of the
+-- sequential monitor, and whose tables are those that the history leaves.
 pub record IsRunReport (script : List Line) (text : List ℕ) : Type 0 where
   pub report : text ≡ solo_report (plain 1) plain_start script
   pub legal : Legal (plain_run script).config (events_of (plain_run script).logs)
@@ -95,11 +96,13 @@ IsGood (orders.Pack shape) bytes = (words : List ℕ) × IsText (word_limit shap
 abbrev pub Says : Order → Option (List ℕ) → Status → List ℕ → Type 0
 Says order told answers.Ok text = IsOutput order told text
 Says order told answers.Usage text = ⊥
-Says order told (answers.ScriptRefused fault) text = (text ≡ fault_line (answers.ScriptRefused fault)) × IsScriptFault order told fault
+Says order told (answers.ScriptRefused fault) text =
+    (text ≡ fault_line (answers.ScriptRefused fault)) × IsScriptFault order told fault
 Says order told answers.ReadFault text = text ≡ fault_line answers.ReadFault
 Says order told answers.WriteFault text = ⊥
 Says order told answers.OutOfMemory text = text ≡ fault_line answers.OutOfMemory
-Says order told (answers.AsmRefused fault) text = (text ≡ fault_line (answers.AsmRefused fault)) × IsAsmFault order told fault
+Says order told (answers.AsmRefused fault) text =
+    (text ≡ fault_line (answers.AsmRefused fault)) × IsAsmFault order told fault
 
 -- The same by what the words ask for, over the files of a depot; words that ask for nothing give Usage.
 abbrev pub IsMeant : Option (List ℕ × Order) → (List ℕ → Option (List ℕ)) → Status → List ℕ → Type 0
@@ -118,7 +121,9 @@ IsRefusal (answers.AsmRefused fault) = ⊤
 
 -- The text was written whole, with the intended answer, or a proper front of it, with WriteFault.
 abbrev pub Prints : Option (List ℕ) → Option (List ℕ) → List ℕ → Status → Status → Type 0
-Prints before after text intended result = ((result ≡ intended) × Appends before after text) ⊎ ((result ≡ answers.WriteFault) × AppendsPart before after text)
+Prints before after text intended result =
+    ((result ≡ intended) × Appends before after text)
+    ⊎ ((result ≡ answers.WriteFault) × AppendsPart before after text)
 
 -- What was to be answered, the text that was to be written for it, which is one that may be, and what
 -- came of it.

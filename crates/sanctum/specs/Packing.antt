@@ -27,7 +27,11 @@ packed_segments (word ∷ words) = record { address = dram_start; words = paired
 
 -- the image of a machine of this size with these words
 abbrev pub packed_image : Shape → List ℕ → Image
-packed_image shape words = record { config = shape; starts = replicate shape.cores packed_start; segments = packed_segments words }
+packed_image shape words = record {
+  config = shape;
+  starts = replicate shape.cores packed_start;
+  segments = packed_segments words;
+}
 
 -- the version in which it is written: 1 up to 8 cores, and 2 above
 abbrev pub version_for : Shape → ℕ
