@@ -20,7 +20,8 @@ use Rattle.core_context.specs.Registers.{begun, entered, returned, restored_cont
 -- Ok of enter, for the records of the enclave and the thread; the root is 0 where there is none, which never comes
 abbrev pub entering : Enclave → Thread → After
 entering enclave thread =
-    afters.Entered thread.entry thread.sp enclave.base enclave.size (unwrap_or enclave.root 0) (not (thread.saved_at == 0))
+    let root = unwrap_or enclave.root 0 in
+    afters.Entered thread.entry thread.sp enclave.base enclave.size root (not (thread.saved_at == 0))
 
 -- what Ok of the call does to its core
 abbrev pub ok_change : State → ℕ → Call → After

@@ -1,6 +1,6 @@
 -- The pc and the registers of a core. This project's own; the registers are those of RV64I, chapter 2 of the
 -- RISC-V Unprivileged ISA.
-use Rattle.std.specs.Prelude.{ℕ, Bool, if◌then◌else◌, List, [], ◌∷◌, ◌++◌, replicate, take, drop, slice_index, slice_set}
+use Rattle.std.specs.Prelude.{ℕ, Bool, ◌==◌, if◌then◌else◌, List, [], ◌∷◌, ◌++◌, replicate, take, drop, slice_index, slice_set}
 use Rattle.mon_types.specs.declared.image.Start.{Start}
 use Rattle.core_context.specs.declared.context.Context.{Context}
 
@@ -22,9 +22,10 @@ abbrev pub returned : Context → ℕ → ℕ → ℕ → Context
 returned os how cause value =
     record os { regs = slice_set (slice_set (slice_set (slice_set os.regs 10 0) 11 how) 12 cause) 13 value }
 
--- one register set
+-- one register set; x0 is never changed
 abbrev pub with_register : Context → ℕ → ℕ → Context
-with_register context x value = record context { regs = slice_set context.regs x value }
+with_register context x value =
+    if x == 0 then context else record context { regs = slice_set context.regs x value }
 
 -- the words that an aex saves: pc, x1 to x31, cause
 abbrev pub saved_context : Context → ℕ → List ℕ

@@ -46,12 +46,12 @@ impl Context {
         Context { pc: self.pc, regs }
     }
 
-    /// Sets a register, if there is one of this number.
+    /// Sets a register, if there is one of this number; x0 is never changed.
     pub fn set(&mut self, x: u8, value: u64)
         ensures { self.new ≡ with_register self.old x value }
     {
         let x = usize::from(x);
-        if x < self.regs.len() {
+        if x != 0 && x < self.regs.len() {
             self.regs[x] = value;
         }
     }

@@ -3,7 +3,8 @@ use Rattle.std.proofs.Common.{◌≡◌, inl, inr, ℕ, zero, suc, ◌+◌, ◌-
 use Rattle.std.proofs.lemmas.Bool.{cases_lt, cases_eq, eq-eqb, ne_eqb, lt-ltb, le-ltb}
 use Rattle.std.proofs.lemmas.List.{get_or_append_left, get_or-append_right, get_or-take, get_or-drop, get_or-replicate, get_or-set_same, get_or-set_other, length-append, length-take-le, length-drop}
 use Rattle.mon_types.specs.Shape.{Shape, page_total, region_of_page}
-use Rattle.dram_map.specs.Addresses.{page_words, first_word, page_of_word, region_of_word}
+use Rattle.mon_types.specs.Sizes.{page_words}
+use Rattle.dram_map.specs.Addresses.{first_word, page_of_word, region_of_word}
 use Rattle.dram_map.specs.Words.{zero_page, words_of_page, page_cleared, pages_cleared}
 use Rattle.dram_map.specs.ByWord.{PutByWord, CopiedByWord, ClearedByWord, RegionClearedByWord}
 

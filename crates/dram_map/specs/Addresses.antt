@@ -1,13 +1,7 @@
 -- Where DRAM stands among physical addresses, and how its words and pages are numbered. This project's own.
 use Rattle.std.specs.Prelude.{ℕ, ◌+◌, ◌-◌, ◌*◌, ◌/◌, ◌<◌, ◌≤◌, Bool, nat_lt, nat_le, ◌&&◌, if◌then◌else◌, Option, Some, None}
 use Rattle.mon_types.specs.Shape.{Shape, page_total, region_of_page}
-
--- how many bytes a page has, and how many words of 8 bytes
-abbrev pub page_bytes : ℕ
-page_bytes = 4096
-
-abbrev pub page_words : ℕ
-page_words = 512
+use Rattle.mon_types.specs.Sizes.{page_bytes, page_words}
 
 -- the physical address of DRAM's first byte
 abbrev pub dram_start : ℕ

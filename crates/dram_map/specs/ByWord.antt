@@ -1,7 +1,8 @@
 -- Laws: what stores in DRAM make of each word, for crates that speak of DRAM word by word.
 use Rattle.std.specs.Prelude.{◌≡◌, ℕ, ◌+◌, ◌%◌, ◌<◌, ◌≤◌, ◌==◌, if◌then◌else◌, List, length, Some}
 use Rattle.mon_types.specs.Shape.{Shape}
-use Rattle.dram_map.specs.Addresses.{page_words, first_word, word_total, page_of_word, region_of_word}
+use Rattle.mon_types.specs.Sizes.{page_words}
+use Rattle.dram_map.specs.Addresses.{first_word, word_total, page_of_word, region_of_word}
 use Rattle.dram_map.specs.Words.{word_at, word_put, page_copied, page_cleared, region_cleared}
 
 -- one word is stored, and no other changes

@@ -3,7 +3,8 @@
 use Rattle.std.specs.Prelude.{ℕ, zero, suc, ◌+◌, ◌==◌, if◌then◌else◌, List, ◌++◌, replicate, take, drop, slice_index, slice_set, Option, Some, None}
 use Rattle.std.specs.List.{copy_within}
 use Rattle.mon_types.specs.Shape.{Shape, page_total, region_of_page}
-use Rattle.dram_map.specs.Addresses.{page_words, first_word, word_total}
+use Rattle.mon_types.specs.Sizes.{page_words}
+use Rattle.dram_map.specs.Addresses.{first_word, word_total}
 
 -- word i; no call asks past the end, where 0 is named for completeness alone
 abbrev pub word_at : List ℕ → ℕ → ℕ

@@ -2,7 +2,8 @@
 
 ghost use Rattle.std.specs.Prelude.{◌≡◌, ◌+◌, ◌*◌, ◌≤◌, ◌<◌, length, IfOk};
 ghost use Rattle.mon_types.specs.Shape.{page_total, region_of_page};
-ghost use Rattle.dram_map.specs.Addresses.{page_words, first_word, word_total};
+ghost use Rattle.mon_types.specs.Sizes.{page_words};
+ghost use Rattle.dram_map.specs.Addresses.{first_word, word_total};
 ghost use Rattle.dram_map.specs.Words.{word_at, word_put, zero_words, words_of_page, page_copied, page_cleared, pages_cleared, region_cleared};
 
 use mon_types::{Config, Items, PAGE_WORDS};

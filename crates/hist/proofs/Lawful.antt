@@ -120,9 +120,9 @@ legal_merges shape logs few legal = record {
 few_words : HoldsOfReplies HasFewWords
 few_words = record {
   done = omega arith;
-  told = λ a. omega arith;
-  told_four = λ a b c d. omega arith;
-  told_eight = λ words. omega arith;
+  ok_with_word = λ a. omega arith;
+  ok_with_four = λ a b c d. omega arith;
+  ok_with_eight = λ words. omega arith;
   invalid_value = tt;
   invalid_state = tt;
   access_denied = tt;

@@ -21,7 +21,7 @@ use Rattle.hist.specs.History.{history, after_entries}
 abbrev pub own : ℕ → List Entry → List Entry
 own core h = filter (λ e. e.core == core) h
 
--- the call of a core with this serial, and the one before it, if there are such
+-- the call of a core with this serial, if there is one
 abbrev pub call_with_serial : List Entry → ℕ → ℕ → Option Entry
 call_with_serial h core serial = find (λ e. e.core == core && e.serial == serial) h
 
@@ -105,7 +105,8 @@ HasBegun h e holder serial = IfSome (call_before h holder serial) (λ x. x.ticke
 -- it was not over when the call of e's core before e was: the call behind it has a higher ticket than that
 abbrev pub WasNotOver : List Entry → Entry → ℕ → ℕ → Type 0
 WasNotOver h e holder serial =
-    IfSome (call_with_serial h holder (serial + 1)) (λ x. IfSome (call_before h e.core e.serial) (λ own. own.ticket < x.ticket))
+    IfSome (call_with_serial h holder (serial + 1)) (λ x.
+    IfSome (call_before h e.core e.serial) (λ own. own.ticket < x.ticket))
 
 -- entry e names a lock that another core's call with this serial had taken then
 pub record MetHeldLock (shape : Shape) (h : List Entry) (now : ℕ → UnderWay) (e : Entry) (lock : ObjectId)

@@ -1,6 +1,6 @@
 -- The definitions of histories field by field, where one field is to fail and all others hold: what a run shows that
 -- this field alone refuses. Each record has the fields of its definition in their order, and where no field is to fail
--- it is the definition (`ButNoneIs`). This project's own.
+-- it is the definition, both ways (`ButNoneIs`, `IsButNone`). This project's own.
 use Rattle.std.specs.Prelude.{◌≡◌, ◌≢◌, ℕ, ◌<◌, Bool, true, false, ◌==◌, IsTrue, List, length, Any, Some, IfSome, IsSomeAnd, is_some}
 use Rattle.std.specs.List.{AllByRecursion}
 use Rattle.mon_types.specs.Shape.{Shape}
@@ -98,6 +98,7 @@ pub record SafeTouchBut (failing : ℕ) (before : List Event) (touch : Event) (b
 abbrev pub none : ℕ
 none = 9
 
+-- A definition field by field with none that fails gives the definition,
 pub record ButNoneIs : Type 0 where
   pub legal : (shape : Shape) (logs : List (List Event)) → LegalBut none shape logs → Legal shape logs
   pub next : (owner next before : ℕ) (e : Entry) → NextBut none owner next before e → IsNextOwn owner next before e
@@ -111,3 +112,22 @@ pub record ButNoneIs : Type 0 where
       → TouchBut none shape h before r a behind → IsTouch shape h before r a behind
   pub safe : (before : List Event) (touch : Event) (behind : List Event) (p : Period)
       → SafeTouchBut none before touch behind p → IsSafeTouch before touch behind p
+
+-- and the definition gives it back: so where a run fails this field alone, it fails the definition's field.
+pub record IsButNone : Type 0 where
+  pub legal : (shape : Shape) (logs : List (List Event)) → Legal shape logs
+      → LegalBut none shape logs
+  pub next : (owner next before : ℕ) (e : Entry) → IsNextOwn owner next before e
+      → NextBut none owner next before e
+  pub entry : (s : State) (e : Entry) → IsLegalEntry s e
+      → EntryBut none s e
+  pub busy : (shape : Shape) (logs : List (List Event)) (now : ℕ → UnderWay) → Busy shape logs now
+      → BusyBut none shape logs now
+  pub lock : (shape : Shape) (h : List Entry) (now : ℕ → UnderWay) (e : Entry) (lock : ObjectId) (holder serial : ℕ)
+      → MetHeldLock shape h now e lock holder serial → LockBut none shape h now e lock holder serial
+  pub taken : (lock : ObjectId) (e : Entry) → HasTaken lock e
+      → TakenBut none lock e
+  pub touch : (shape : Shape) (h : List Entry) (before : List Event) (r a : ℕ) (behind : List Event)
+      → IsTouch shape h before r a behind → TouchBut none shape h before r a behind
+  pub safe : (before : List Event) (touch : Event) (behind : List Event) (p : Period)
+      → IsSafeTouch before touch behind p → SafeTouchBut none before touch behind p

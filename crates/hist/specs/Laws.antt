@@ -28,7 +28,7 @@ abbrev pub EachLogIsItsPart : Type 0
 EachLogIsItsPart = (shape : Shape) (logs : List (List Event)) → Legal shape logs
     → (core : ℕ) → core < length logs → own core (history logs) ≡ entries_of (log_of logs core)
 
--- a period that is not touched is one of which each touch has a clearing entry behind it, and the other way round
+-- a period that is not touched is one of which each touch has a clearing entry behind it
 abbrev pub UntouchedIsCleared : Type 0
 UntouchedIsCleared = (r a : ℕ) (log : List Event) → is_touched r a log ≡ false → ClearedSince (events.Touch r a) log
 

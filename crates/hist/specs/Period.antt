@@ -27,7 +27,7 @@ was_initialized es slot = fold (initialized_after slot) false es
 abbrev pub owner_by : ℕ → (ℕ → Bool) → Entry → Option Owner
 owner_by r initialized e = if is_done e.reply then owner_made r initialized e.call e.tried else None
 
--- the entry with this ticket, and those with lower tickets
+-- the entry with this ticket, if there is one
 abbrev pub entry_at : List Entry → ℕ → Option Entry
 entry_at h ticket = find (λ e. e.ticket == ticket) h
 

@@ -38,7 +38,7 @@ entry_with page ticket core serial call reply tried =
 abbrev pub entry : ℕ → ℕ → ℕ → Call → Reply → List ObjectId → Entry
 entry ticket core serial call reply tried = entry_with None ticket core serial call reply tried
 
--- at this ticket, by this core, with this serial of its own: an Ok block of region 3, an Ok flush
+-- at this ticket, by this core, with this serial of its own: an Ok block of region 3
 abbrev pub block_3 : ℕ → ℕ → ℕ → Entry
 block_3 ticket core serial = entry ticket core serial (calls.Block 3) done (r3 ∷ [])
 
@@ -46,7 +46,7 @@ block_3 ticket core serial = entry ticket core serial (calls.Block 3) done (r3 �
 abbrev pub flushed : ℕ → ℕ → ℕ → Entry
 flushed ticket core serial = entry ticket core serial calls.Flush done (objects.Cell core ∷ [])
 
--- an Ok free of region 3 on one core, and one on two; one that is refused
+-- an Ok free of region 3 on one core
 abbrev pub free_3 : ℕ → ℕ → ℕ → Entry
 free_3 ticket core serial = entry ticket core serial (calls.Free 3) done (r3 ∷ c0 ∷ [])
 
@@ -58,7 +58,7 @@ both_freed ticket core serial = entry ticket core serial (calls.Free 3) done (r3
 abbrev pub not_freed : ℕ → ℕ → ℕ → Entry
 not_freed ticket core serial = entry ticket core serial (calls.Free 3) replies.NotFlushed (r3 ∷ c0 ∷ c1 ∷ [])
 
--- an Ok assign of region 3 to the OS, an Ok create of enclave 0, an Ok assign of region 3 to it
+-- an Ok assign of region 3 to the OS
 abbrev pub assigned_to_os : ℕ → ℕ → ℕ → Entry
 assigned_to_os ticket core serial = entry ticket core serial (calls.Assign 3 os_word) done (r3 ∷ [])
 

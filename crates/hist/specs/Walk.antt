@@ -27,5 +27,6 @@ go_on p e (Some b) (Some z) = p
 
 -- what is known of the period (r, a) after one more entry
 abbrev pub known_after : ℕ → ℕ → (ℕ → Bool) → Option Period → Entry → Option Period
-known_after r a initialized None e = if e.ticket == a then option_map (begun_period r a) (owner_by r initialized e) else None
+known_after r a initialized None e =
+    if e.ticket == a then option_map (begun_period r a) (owner_by r initialized e) else None
 known_after r a initialized (Some p) e = Some (go_on p e p.blocked p.freed)

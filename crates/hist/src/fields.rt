@@ -9,13 +9,14 @@ ghost use Rattle.hist.specs.History.{history};
 ghost use Rattle.hist.specs.Busy.{idle};
 ghost use Rattle.hist.specs.Period.{period_in};
 ghost use Rattle.hist.specs.SafeLog.{SafeLog};
-ghost use Rattle.hist.specs.Fields.{LegalBut, NextBut, EntryBut, BusyBut, LockBut, TakenBut, TouchBut, SafeTouchBut, ButNoneIs};
+ghost use Rattle.hist.specs.Fields.{LegalBut, NextBut, EntryBut, BusyBut, LockBut, TakenBut, TouchBut, SafeTouchBut, ButNoneIs, IsButNone};
 ghost use Rattle.mon_model.specs.Examples.{r3};
 ghost use Rattle.hist.specs.Rows.{block_3, flushed, met, logged, second_log, late_ticket, anothers_entry, late_serial, falling_tickets, alone, wrongly_refused, tries_nothing, has_a_page, no_core, own_lock, untried_lock, names_untried, no_call, other_object, both_met, not_begun, was_over, nobody_holds, period_of_3, nowhere, no_period, late_touch, early_touch, behind_early, foreign_touch, before_foreign, foreign_period, never_flushed, touched_twice};
 
 /// The definitions field by field are the definitions, where no field is to fail.
 pub fn fields_are_all()
-    ensures { ButNoneIs }
+    ensures fields { ButNoneIs }
+    ensures definitions { IsButNone }
 {}
 
 /// A second log on one core.

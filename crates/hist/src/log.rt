@@ -53,7 +53,7 @@ impl Log {
         self.spare
     }
 
-    /// The events, the first first.
+    /// The events, the oldest first.
     pub fn events(&self) -> &[Event]
         ensures { result.now ≡ self.now.events }
     {

@@ -9,6 +9,7 @@ ghost use Rattle.hist.specs.Merging.{CanMerge, entries_left, BeginsWithEntry, Is
 
 use crate::event::{Entry, Event};
 use crate::log::Log;
+use mon_types::MOST_CORES;
 use std::marker::Model;
 
 /// The entries of up to 16 logs that are still to come, in the order of their tickets. Contracts see
@@ -16,7 +17,7 @@ use std::marker::Model;
 #[derive(Drop)]
 pub struct Merge<'a> {
     /// The events of each log from its next entry on; empty for a log that is over, or missing.
-    rests: [&'a [Event]; 16],
+    rests: [&'a [Event]; MOST_CORES],
 }
 
 impl<'a> Model for Merge<'a> {
@@ -38,7 +39,7 @@ impl<'a> Merge<'a> {
         requires { CanMerge (events_of logs.now) }
         ensures { result ≡ history (events_of logs.now) }
     {
-        let mut rests: [&'a [Event]; 16] = [&[]; 16];
+        let mut rests: [&'a [Event]; MOST_CORES] = [&[]; MOST_CORES];
         for (i, log) in logs.iter().enumerate() {
             rests[i] = from_entry(log.events());
         }
@@ -99,7 +100,7 @@ fn earlier<'a>(first: Option<First<'a>>, rest: &'a [Event], at: usize) -> Option
 }
 
 /// The entry with the least ticket of those with which the logs begin.
-fn earliest<'a>(rests: &[&'a [Event]; 16]) -> Option<First<'a>>
+fn earliest<'a>(rests: &[&'a [Event]; MOST_CORES]) -> Option<First<'a>>
     requires { AllByRecursion (λ rest. BeginsWithEntry rest.now) rests.now }
     ensures { IsEarliest (map entries_left rests.now) result }
 {

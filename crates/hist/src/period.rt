@@ -15,7 +15,7 @@ ghost use Rattle.hist.specs.Walk.{flag_of, FlagsGoOn, begun_period, go_on, known
 use crate::event::Entry;
 use crate::log::Log;
 use crate::merge::Merge;
-use mon_types::{Call, OS_WORD, Owner, Reply};
+use mon_types::{Call, OS_WORD, Owner, SLOTS, has_bit};
 
 /// A region's time with an owner, in a history: since the entry with ticket `since`, or since the start
 /// where that is 0; blocked at one ticket and freed at a later one, if that came.
@@ -38,7 +38,7 @@ pub fn period_of(logs: &[Log], region: u8, since: u32) -> Option<Period>
     ensures { result ≡ period_in (history (events_of logs.now)) region since }
 {
     let mut period = known_at_start(region, since);
-    let mut initialized = [false; 8];
+    let mut initialized = [false; SLOTS];
     for entry in Merge::new(logs) {
         period = known_after(region, since, &initialized, period, entry);
         note_slot(&mut initialized, entry);
@@ -70,7 +70,7 @@ fn begun_period(region: u8, since: u32, owner: Owner) -> Period
 fn known_after(
     region: u8,
     since: u32,
-    initialized: &[bool; 8],
+    initialized: &[bool; SLOTS],
     period: Option<Period>,
     entry: &Entry,
 ) -> Option<Period>
@@ -106,21 +106,15 @@ fn go_on(period: Period, entry: &Entry) -> Period
     }
 }
 
-fn is_done(entry: &Entry) -> bool
-    ensures { result ≡ is_done entry.now.reply }
-{
-    matches!(entry.reply, Reply::Ok { .. })
-}
-
 /// Whether the entry is an Ok block of the region, or an Ok delete that tried it.
 fn is_end(region: u8, entry: &Entry) -> bool
     requires { region < 64 }
     ensures { result ≡ is_end region entry.now }
 {
-    is_done(entry)
+    entry.reply.is_ok()
         && match entry.call {
             Call::Block { r } => r == u64::from(region),
-            Call::Delete { .. } => (entry.tried.regions >> region) % 2 == 1,
+            Call::Delete { .. } => has_bit(entry.tried.regions, region),
             _ => false,
         }
 }
@@ -129,15 +123,15 @@ fn is_end(region: u8, entry: &Entry) -> bool
 fn is_freeing(region: u8, entry: &Entry) -> bool
     ensures { result ≡ is_freeing region entry.now }
 {
-    is_done(entry) && matches!(entry.call, Call::Free { r } if r == u64::from(region))
+    entry.reply.is_ok() && matches!(entry.call, Call::Free { r } if r == u64::from(region))
 }
 
 /// Whom the entry makes the owner of the region.
-fn owner_by(region: u8, initialized: &[bool; 8], entry: &Entry) -> Option<Owner>
+fn owner_by(region: u8, initialized: &[bool; SLOTS], entry: &Entry) -> Option<Owner>
     requires { is_done entry.now.reply ≡ true → NamesOwnerIn entry.now.call entry.now.tried }
     ensures { result ≡ owner_by region (flag_of initialized.now) entry.now }
 {
-    if !is_done(entry) {
+    if !entry.reply.is_ok() {
         return None;
     }
     match entry.call {
@@ -150,7 +144,7 @@ fn owner_by(region: u8, initialized: &[bool; 8], entry: &Entry) -> Option<Owner>
 }
 
 /// Whom an assign makes the owner: an initialized enclave is only offered the region.
-fn assigned(to: u64, initialized: &[bool; 8]) -> Option<Owner>
+fn assigned(to: u64, initialized: &[bool; SLOTS]) -> Option<Owner>
     requires { (to ≡ os_word) ⊎ (to < 8) }
     ensures { result ≡ (if nat_eq to os_word then Some owners.Os else if flag_of initialized.now to then None else Some (owners.Enclave to)) }
 {
@@ -172,10 +166,10 @@ fn sole_slot(set: u8) -> u8
 }
 
 /// Notes that an Ok init made its slot initialized, and an Ok create no longer so.
-fn note_slot(initialized: &mut [bool; 8], entry: &Entry)
+fn note_slot(initialized: &mut [bool; SLOTS], entry: &Entry)
     ensures { FlagsGoOn initialized.old initialized.new entry.now }
 {
-    if !is_done(entry) {
+    if !entry.reply.is_ok() {
         return;
     }
     match entry.call {

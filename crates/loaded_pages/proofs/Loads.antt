@@ -231,7 +231,7 @@ pages_same m y items f g e t = record {
   fresh = λ p i b n l. e (512 * p + i) ∙ t.fresh p i b n l;
 }
 
-module _ (m : Shape) (x y : Enclave) (items : List Loaded) (f : Content) (h : is_loading x.stage ≡ true → PagesHold m x items f) (placed : is_loading x.stage ≡ true → All (IsPlaced m x) items) (roots : (root : ℕ) → x.root ≡ Some root → IsRootPlaced m x root) (rootless : x.root ≡ None → items ≡ []) (va page : ℕ) (small : va < 2 ^ 38) (same : y.regions ≡ x.regions) (next : y.next_page ≡ page + 1) where
+module _ (m : Shape) (x y : Enclave) (items : List Loaded) (f : Content) (h : is_loading x.stage ≡ true → PagesHold m x items f) (placed : is_loading x.stage ≡ true → All (IsPlaced m x) items) (root_pages : (root : ℕ) → x.root ≡ Some root → IsRootPlaced m x root) (rootless : x.root ≡ None → items ≡ []) (va page : ℕ) (small : va < 2 ^ 38) (same : y.regions ≡ x.regions) (next : y.next_page ≡ page + 1) where
   abbrev table_at : Bool → Bool → Option ℕ
   table_at two one = cond two None (cond one (place_in_root x.root va) (place_in_table (table_1_for va items) 1 va))
 
@@ -257,13 +257,13 @@ module _ (m : Shape) (x y : Enclave) (items : List Loaded) (f : Content) (h : is
       by : (one : Bool) → cond one (not (has_table_1 va items)) (has_table_1 va items && not (has_table_0 va items)) ≡ true → Taken x page → has_bit x.regions (region_of_page m page) ≡ true → (r : ℕ) → x.root ≡ Some r
           → Grown m x y (items ++ item (cond one kinds.Table1 kinds.Table0) va page ∷ []) f (content_put (cond one (place_in_root x.root va) (place_in_table (table_1_for va items) 1 va)) (pointer_pte page) f)
       by true b tk mine r is =
-          let at = roots r is in
+          let at = root_pages r is in
           subst (λ z. Grown m x y (items ++ item kinds.Table1 va page ∷ []) f (content_put (place_in_root z va) (pointer_pte page) f)) (sym is) (
             one_pages m x y items f (h tk.loading) (placed tk.loading) va page small tk.above same next r is (root ∙ is) (omega (arith, at.below, tk.above)) (none_found _ items b) mine,
             link_within m x r (pte_index 2 va) _ f f (at.in_set tk.loading) (index_less 2 va) (λ i. inl refl),
           )
       by false b tk mine r is =
-          let at = roots r is in
+          let at = root_pages r is in
           let t1 = any_found (λ item. is_table_1 item.kind && is_there_for va item) items (and_left (has_table_1 va items) _ b) in
           subst (λ z. Grown m x y (items ++ item kinds.Table0 va page ∷ []) f (content_put (place_in_table z 1 va) (pointer_pte page) f)) (sym t1.1) (
             zero_pages m x y items f (h tk.loading) (placed tk.loading) va page small tk.above same next r is (root ∙ is) (omega (arith, at.below, tk.above)) t1.0 t1.1 (none_found _ items (and_right (has_table_1 va items) _ b)) mine,
@@ -276,7 +276,7 @@ module _ (m : Shape) (x y : Enclave) (items : List Loaded) (f : Content) (h : is
   leaf_grown kind perms fp off leaf part nextp fits place root within =
       let tk = taken x page nextp in
       let r = is_there x.root (and_right (in_range x va) _ fits) in
-      let at = roots r.0 r.1 in
+      let at = root_pages r.0 r.1 in
       let both = and_left (has_table_1 va items && has_table_0 va items) _ place in
       let t0 = any_found (λ item. is_table_0 item.kind && is_there_for va item) items (and_right (has_table_1 va items) _ both) in
       subst (λ z. Grown m x y (items ++ item kind va page ∷ []) f (content_put (place_in_table z 0 va) (leaf_pte page perms) fp)) (sym t0.1) (
@@ -303,7 +303,7 @@ load_content s f core (calls.LoadTable e va level page) ws digest k w facts h l 
     let c = carried s core (calls.LoadTable e va level page) d in
     let range = arguments_in_range s.shape (calls.LoadTable e va level page) c.value in
     let x : Enclave = enclave_at s e in
-    let grown = table_grown s.shape x (with_table x va level page) (loaded_at s e) f (h.pages e) (facts.placed e) (facts.roots e) (facts.rootless e) va page range.3 refl refl (eqb level 2) (eqb level 1) c.held refl in
+    let grown = table_grown s.shape x (with_table x va level page) (loaded_at s e) f (h.pages e) (facts.placed e) (facts.root_pages e) (facts.rootless e) va page range.3 refl refl (eqb level 2) (eqb level 1) c.held refl in
     slot_content s f _ e _ _ facts (subst (λ z. e < z) (sym w.enclaves) range.0) (subst (λ z. e < z) (sym w.loaded) range.0) h grown.1 grown.0
 load_content s f core (calls.LoadPage e va page src perms) ws digest k w facts h l d =
     let c = carried s core (calls.LoadPage e va page src perms) d in
@@ -312,7 +312,7 @@ load_content s f core (calls.LoadPage e va page src perms) ws digest k w facts h
     let items : List Loaded = loaded_at s e in
     let ok = page_ok (takes_page s.shape x page && leaf_fits x va) (is_os_owned (region_at s (region_of_page s.shape src))) (has_place_for_leaf items va) c.held in
     let takes = and_left (takes_page s.shape x page) _ ok.0 in
-    let grown = leaf_grown s.shape x (with_page x va page perms digest) items f (h.pages e) (facts.placed e) (facts.roots e) (facts.rootless e) va page range.4 refl refl kinds.Page perms (page_put page ws f)
+    let grown = leaf_grown s.shape x (with_page x va page perms digest) items f (h.pages e) (facts.placed e) (facts.root_pages e) (facts.rootless e) va page range.4 refl refl kinds.Page perms (page_put page ws f)
     (λ q j ne b. paste_other page ws f (512 * q + j) (λ g. ne (let e : (512 * q + j) / 512 ≡ page = g in omega arith)))
     (refl, refl, refl) (λ at. refl) (and_left (is_next_page x page) _ takes) (and_right (takes_page s.shape x page) _ ok.0) ok.2 refl (paste_within s.shape x page ws f (and_right (is_next_page x page) _ takes)) in
     slot_content s f _ e _ _ facts (subst (λ z. e < z) (sym w.enclaves) range.0) (subst (λ z. e < z) (sym w.loaded) range.0) h grown.1 grown.0
@@ -324,7 +324,7 @@ load_content s f core (calls.Reserve e va page perms) ws digest k w facts h l d 
     let b = done_true _ c.held in
     let first = and_left (reserves_page s.shape x page && leaf_fits x va) _ b in
     let takes = and_left (reserves_page s.shape x page) _ first in
-    let grown = leaf_grown s.shape x (with_reserved x va page perms) items f (h.pages e) (facts.placed e) (facts.roots e) (facts.rootless e) va page range.3 refl refl kinds.Reserved perms f
+    let grown = leaf_grown s.shape x (with_reserved x va page perms) items f (h.pages e) (facts.placed e) (facts.root_pages e) (facts.rootless e) va page range.3 refl refl kinds.Reserved perms f
     (λ q j ne b. refl) (refl, refl, refl) (λ at. refl) (and_left (is_next_page x page) _ takes) (and_right (reserves_page s.shape x page) _ first) (and_right (reserves_page s.shape x page && leaf_fits x va) _ b) refl (λ i. inl refl) in
     slot_content s f _ e _ _ facts (subst (λ z. e < z) (sym w.enclaves) range.0) (subst (λ z. e < z) (sym w.loaded) range.0) h grown.1 grown.0
 load_content s f core _ ws digest k w facts h l d = absurd l

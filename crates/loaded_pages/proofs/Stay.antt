@@ -64,7 +64,7 @@ table_inside m x items va t placed k = elim k [
 ]
 
 pub root_inside : (s : State) (e root : ℕ) → FactsHold s → is_loading (enclave_at s e).stage ≡ true → (enclave_at s e).root ≡ Some root → IsInside s.shape (enclave_at s e) root
-root_inside s e root facts load is = let r = facts.roots e root is in record { below = r.below; in_set = r.in_set load }
+root_inside s e root facts load is = let r = facts.root_pages e root is in record { below = r.below; in_set = r.in_set load }
 
 -- ---- the same words
 

@@ -8,7 +8,8 @@ use Rattle.mon_types.specs.declared.call.Call.TheVariants as calls
 use Rattle.mon_types.specs.declared.reply.Reply.{Reply}
 use Rattle.mon_types.specs.declared.enclave.Loaded.{Loaded}
 use Rattle.mon_model.specs.State.{State, enclave_at, loaded_at}
-use Rattle.dram_map.specs.Addresses.{page_words, page_of_word, region_of_word}
+use Rattle.mon_types.specs.Sizes.{page_words}
+use Rattle.dram_map.specs.Addresses.{page_of_word, region_of_word}
 use Rattle.sv39_pte.specs.Tables.{pte_place, pointer_pte, leaf_pte}
 use Rattle.mon_enclaves.specs.FromItems.{table_1_for, table_0_for}
 

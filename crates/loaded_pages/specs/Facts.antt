@@ -8,7 +8,8 @@ use Rattle.mon_types.specs.declared.enclave.Loaded.{Loaded}
 use Rattle.mon_model.specs.State.{State, region_at, enclave_at, loaded_at}
 use Rattle.mon_model.specs.RegionCalls.{is_loading}
 use Rattle.mon_model.specs.RegionStep.{is_idle}
-use Rattle.dram_map.specs.Addresses.{page_words, first_word, region_of_word}
+use Rattle.mon_types.specs.Sizes.{page_words}
+use Rattle.dram_map.specs.Addresses.{first_word, region_of_word}
 use Rattle.sv39_pte.specs.Tables.{pte_index}
 use Rattle.mon_enclaves.specs.FromItems.{table_1_for, table_0_for, leaf_for, pte_of_table, pte_of_leaf}
 use Rattle.loaded_pages.specs.Content.{Content}

@@ -1,8 +1,8 @@
 -- What the pages of a Loading enclave hold after so many entries of the history. This project's own.
-use Rattle.std.specs.Prelude.{◌≡◌, ℕ, ◌+◌, Bool, ◌&&◌, if◌then◌else◌, List, [], ◌∷◌, map, take, drop, Option, Some, None}
+use Rattle.std.specs.Prelude.{◌≡◌, ℕ, ◌+◌, Bool, ◌&&◌, nat_lt, if◌then◌else◌, List, [], ◌∷◌, length, map, take, drop, Option, Some, None}
 use Rattle.std.specs.List.{range_with_len, slice_index_or, AllByRecursion}
 use Rattle.mon_types.specs.Bits.{has_bit}
-use Rattle.mon_types.specs.Shape.{Shape, region_of_page}
+use Rattle.mon_types.specs.Shape.{Shape, page_total, region_of_page}
 use Rattle.mon_model.specs.State.{State, start, enclave_at}
 use Rattle.mon_model.specs.RegionCalls.{is_loading}
 use Rattle.mon_model.specs.Measure.{page_digest}
@@ -10,7 +10,8 @@ use Rattle.hist.specs.declared.event.PageInput.{PageInput}
 use Rattle.hist.specs.declared.event.Entry.{Entry}
 use Rattle.hist.specs.declared.event.Event.{Event}
 use Rattle.hist.specs.History.{history, after_entry, state_after}
-use Rattle.dram_map.specs.Addresses.{page_words, first_word}
+use Rattle.mon_types.specs.Sizes.{page_words}
+use Rattle.dram_map.specs.Addresses.{first_word}
 use Rattle.loaded_pages.specs.Content.{Content, zero_content, content_after}
 
 -- the words of the page that an entry read: those that stand in its core's answers from `at` on
@@ -39,10 +40,11 @@ content_at shape logs answers k = content_from answers (start shape) (take k (hi
 abbrev pub page_words_of : Content → ℕ → List ℕ
 page_words_of content page = map (λ j. content (first_word page + j)) (range_with_len 0 page_words)
 
--- whether slot e has a Loading enclave to whose set the page's region belongs
+-- whether the page is one of DRAM, and slot e has a Loading enclave to whose set its region belongs
 abbrev pub is_page_of : State → ℕ → ℕ → Bool
 is_page_of s e page =
-    is_loading (enclave_at s e).stage && has_bit (enclave_at s e).regions (region_of_page s.shape page)
+    nat_lt page (page_total s.shape) && is_loading (enclave_at s e).stage
+    && has_bit (enclave_at s e).regions (region_of_page s.shape page)
 
 -- LoadedPages: for the Loading enclave in slot e after k entries, the 512 words of each page of its regions, and None
 -- for any other page
@@ -52,11 +54,16 @@ loaded_page shape logs answers k e page =
     then Some (page_words_of (content_at shape logs answers k) page)
     else None
 
--- the digest of an entry's page is that of the words that it read
-abbrev pub HasDigest : List (List ℕ) → Entry → Option PageInput → Type 0
-HasDigest answers e None = Unit {0}
-HasDigest answers e (Some page) = page.digest ≡ page_digest (entry_words answers e)
+-- the words of a page that was read stand in its core's answers, and its digest is theirs
+pub record IsPageRead (page : PageInput) (words : List ℕ) : Type 0 where
+  pub count : length words ≡ page_words
+  pub digest : page.digest ≡ page_digest words
+
+-- an entry that read a page
+abbrev pub HasReadPage : List (List ℕ) → Entry → Option PageInput → Type 0
+HasReadPage answers e None = Unit {0}
+HasReadPage answers e (Some page) = IsPageRead page (entry_words answers e)
 
 -- the same of each of these entries
-abbrev pub HaveDigests : List (List ℕ) → List Entry → Type 0
-HaveDigests answers es = AllByRecursion (λ e. HasDigest answers e e.page) es
+abbrev pub HaveReadPages : List (List ℕ) → List Entry → Type 0
+HaveReadPages answers es = AllByRecursion (λ e. HasReadPage answers e e.page) es

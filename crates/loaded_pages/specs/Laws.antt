@@ -15,7 +15,7 @@ use Rattle.mon_facts.specs.Facts.{FactsHold}
 use Rattle.hist.specs.declared.event.Event.{Event}
 use Rattle.hist.specs.History.{state_after}
 use Rattle.hist.specs.Legal.{Legal}
-use Rattle.dram_map.specs.Addresses.{page_words}
+use Rattle.mon_types.specs.Sizes.{page_words}
 use Rattle.mon_enclaves.specs.FromItems.{table_words, leaf_words}
 use Rattle.sv39_pte.specs.Tables.{leads_to_table}
 use Rattle.mon_enclaves.specs.ByWords.{words_fit}

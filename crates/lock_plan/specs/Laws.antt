@@ -17,7 +17,8 @@ use Rattle.lock_plan.specs.Records.{records_of, with_record, HoldsFront}
 unfoldable pub asked : State → ℕ → Call → ℕ → List ObjectId
 asked s core call zero = []
 asked s core call (suc n) =
-    asked s core call n ++ option_to_list (planned s.shape core (mode_of s core) call (records_of s (asked s core call n)))
+    asked s core call n
+    ++ option_to_list (planned s.shape core (mode_of s core) call (records_of s (asked s core call n)))
 
 -- they are the first n that the call tries in that state
 abbrev pub AskingGivesTries : Type 0

@@ -25,8 +25,8 @@ first_region h = (slice_index_or h.regions.items 0 (0, regions.Free)).1
 abbrev pub first_enclave : Held → Enclave
 first_enclave h = (slice_index_or h.enclaves.items 0 (0, empty_enclave)).1
 
--- The objects that the call tries, in order, as far as these records tell them: the first region that is held tells what
--- a free tries, the first enclave what a delete does. Before it is held only the first object counts.
+-- The objects that the call tries, in order, as far as these records tell them: the first region that is held tells
+-- what a free tries, the first enclave what a delete does. Before it is held only the first object counts.
 abbrev pub plan_of : Shape → ℕ → Mode → Call → Held → List ObjectId
 plan_of shape core mode call held = plan shape core mode call (first_region held) (first_enclave held).regions
 

@@ -5,7 +5,7 @@ ghost use Rattle.lock_plan.specs.Plan.{held_count};
 ghost use Rattle.lock_plan.specs.Records.{nothing_held};
 
 use arrayvec::ArrayVec;
-use mon_types::{Enclave, Region, Thread};
+use mon_types::{Enclave, MOST_CORES, MOST_REGIONS, Region, Thread};
 
 /// The records of the objects that a call holds so far, each with the object's number, kind by kind, in
 /// the order in which they were tried. That of a cell is the ticket of its core's last flush.
@@ -13,8 +13,8 @@ use mon_types::{Enclave, Region, Thread};
 pub struct Held {
     pub enclaves: ArrayVec<(u8, Enclave), 2>,
     pub threads: ArrayVec<(u8, Thread), 1>,
-    pub regions: ArrayVec<(u8, Region), 64>,
-    pub cells: ArrayVec<(u8, u32), 16>,
+    pub regions: ArrayVec<(u8, Region), MOST_REGIONS>,
+    pub cells: ArrayVec<(u8, u32), MOST_CORES>,
 }
 
 impl Held {

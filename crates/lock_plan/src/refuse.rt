@@ -4,7 +4,7 @@ ghost use Rattle.std.specs.Prelude.{◌≡◌, ◌+◌, ◌^◌, nat_lt, false, 
 ghost use Rattle.mon_types.specs.Replies.{is_done};
 ghost use Rattle.mon_model.specs.Early.{is_wrong_mode, is_bad_value, is_fixed_region, is_no_region, is_no_slot, is_no_thread, is_no_mailbox, is_no_page, is_bad_address, are_bad_perms, is_bad_range, is_bad_level, is_bad_satp, early};
 
-use mon_types::{Call, Config, Mode, OS_WORD, Reply};
+use mon_types::{ADDRESS_END, Call, Config, Mode, OS_WORD, PAGE_BYTES, Reply, SLOTS, THREADS};
 
 /// Whether a core in this mode may not make this call.
 fn has_wrong_mode(mode: Mode, call: &Call) -> bool
@@ -33,13 +33,13 @@ fn has_wrong_mode(mode: Mode, call: &Call) -> bool
 fn names_no_slot(e: u64) -> bool
     ensures { result ≡ is_no_slot e }
 {
-    8 <= e
+    SLOTS as u64 <= e
 }
 
 fn names_no_thread(t: u64) -> bool
     ensures { result ≡ is_no_thread t }
 {
-    16 <= t
+    THREADS as u64 <= t
 }
 
 fn names_no_mailbox(m: u64) -> bool
@@ -70,7 +70,7 @@ fn names_no_page(config: &Config, page: u64) -> bool
 fn has_bad_address(va: u64) -> bool
     ensures { result ≡ is_bad_address va }
 {
-    va % 4096 != 0 || 1 << 38 <= va
+    va % PAGE_BYTES != 0 || ADDRESS_END <= va
 }
 
 fn has_bad_perms(perms: u64) -> bool
@@ -82,7 +82,7 @@ fn has_bad_perms(perms: u64) -> bool
 fn has_bad_range(base: u64, size: u64) -> bool
     ensures { result ≡ is_bad_range base size }
 {
-    base % 4096 != 0 || size % 4096 != 0 || size == 0 || ends_too_high(base, size)
+    base % PAGE_BYTES != 0 || size % PAGE_BYTES != 0 || size == 0 || ends_too_high(base, size)
 }
 
 /// Whether the range ends above the last address.

@@ -36,7 +36,7 @@ pub fn decide_enclave_info(enclave: &Enclave) -> Reply
 {
     let [m0, m1, m2, m3] = enclave.measure;
     let stage = enclave.stage.code();
-    Reply::told_eight([
+    Reply::ok_with_eight([
         stage,
         enclave.base,
         enclave.size,

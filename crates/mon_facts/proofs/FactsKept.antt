@@ -58,7 +58,7 @@ not-true : {P : Type 0} (b : Bool) → b ≡ false → b ≡ true → P
 not-true b f t = absurd (true≢false (sym t ∙ f))
 
 filled_at : (s : State) (e : ℕ) → FactsHold s → IsFilled s.shape (enclave_at s e) (loaded_at s e)
-filled_at s e h = record { placed = h.placed e; roots = h.roots e; rootless = h.rootless e }
+filled_at s e h = record { placed = h.placed e; root_pages = h.root_pages e; rootless = h.rootless e }
 
 -- an enclave's record, with the same set of regions and as many threads
 enclave_kept : (s : State) (e : ℕ) (x : Enclave) → e < length s.enclaves → x.regions ≡ (enclave_at s e).regions → x.threads ≡ (enclave_at s e).threads → IsBlank x
@@ -72,7 +72,7 @@ enclave_kept s e x p set count blank init filled h = record {
   alone = h.alone;
   initialized = initialized-enclave s.enclaves s.threads e x p init h.initialized;
   placed = placed-enclave s.shape s.enclaves s.loaded e x p filled.placed h.placed;
-  roots = roots-enclave s.shape s.enclaves e x p filled.roots h.roots;
+  root_pages = roots-enclave s.shape s.enclaves e x p filled.root_pages h.root_pages;
   rootless = rootless-enclave s.enclaves s.loaded e x p filled.rootless h.rootless;
 }
 
@@ -88,7 +88,7 @@ slot_kept s e x items p q set count blank init filled h = record {
   alone = h.alone;
   initialized = initialized-enclave s.enclaves s.threads e x p init h.initialized;
   placed = placed-slot s.shape s.enclaves s.loaded e x items p q filled.placed h.placed;
-  roots = roots-enclave s.shape s.enclaves e x p filled.roots h.roots;
+  root_pages = roots-enclave s.shape s.enclaves e x p filled.root_pages h.root_pages;
   rootless = rootless-slot s.enclaves s.loaded e x items p q filled.rootless h.rootless;
 }
 
@@ -103,7 +103,7 @@ region_kept s r x q same h = record {
   alone = h.alone;
   initialized = h.initialized;
   placed = h.placed;
-  roots = h.roots;
+  root_pages = h.root_pages;
   rootless = h.rootless;
 }
 
@@ -118,7 +118,7 @@ thread_kept s t x q same h = record {
   alone = h.alone;
   initialized = initialized-kept s.enclaves s.threads t x q (λ e r. h.initialized e t (sym same ∙ r)) h.initialized;
   placed = h.placed;
-  roots = h.roots;
+  root_pages = h.root_pages;
   rootless = h.rootless;
 }
 
@@ -136,7 +136,7 @@ gained_kept s e r k p q unowned there h = record {
   alone = h.alone;
   initialized = initialized-enclave s.enclaves s.threads e x p (λ i. i) h.initialized;
   placed = placed-enclave s.shape s.enclaves s.loaded e x p filled.placed h.placed;
-  roots = roots-enclave s.shape s.enclaves e x p filled.roots h.roots;
+  root_pages = roots-enclave s.shape s.enclaves e x p filled.root_pages h.root_pages;
   rootless = rootless-enclave s.enclaves s.loaded e x p filled.rootless h.rootless;
 }
   where
@@ -193,7 +193,7 @@ block_kept (modes.Inside i j) s core r k is n t q d h =
       alone = h.alone;
       initialized = initialized-enclave s.enclaves s.threads i x p (λ a. a) h.initialized;
       placed = placed-enclave s.shape s.enclaves s.loaded i x p filled.placed h.placed;
-      roots = roots-enclave s.shape s.enclaves i x p filled.roots h.roots;
+      root_pages = roots-enclave s.shape s.enclaves i x p filled.root_pages h.root_pages;
       rootless = rootless-enclave s.enclaves s.loaded i x p filled.rootless h.rootless;
     }
 
@@ -268,7 +268,7 @@ below_kept : (s : State) (e : ℕ) (x : Enclave) (kind : LoadedKind) (va page : 
     → x.root ≡ (enclave_at s e).root → has_root (enclave_at s e) ≡ true → FactsHold s → FactsHold (with_item s e x kind va page)
 below_kept s e x kind va page t small load le lies stage set count next same there h =
     let root = rooted (enclave_at s e) there in
-    let was = h.roots e root.0 root.1 in
+    let was = h.root_pages e root.0 root.1 in
     item_kept s e x kind va page root.0 t small load le lies stage set count next (same ∙ root.1) (omega (arith, was.below)) (was.in_set load) h
 
 -- a table: of level 2 it is the root
@@ -301,7 +301,7 @@ delete_kept s e k t small d h =
       alone = h.alone;
       initialized = initialized-emptied s.enclaves s.threads e empty_enclave p (sym (h.counts e) ∙ none) h.initialized;
       placed = placed-slot s.shape s.enclaves s.loaded e empty_enclave [] p q (filled-none s.shape empty_enclave refl).placed h.placed;
-      roots = roots-enclave s.shape s.enclaves e empty_enclave p (filled-none s.shape empty_enclave refl).roots h.roots;
+      root_pages = roots-enclave s.shape s.enclaves e empty_enclave p (filled-none s.shape empty_enclave refl).root_pages h.root_pages;
       rootless = rootless-slot s.enclaves s.loaded e empty_enclave [] p q (λ _. refl) h.rootless;
     })
   where
@@ -349,7 +349,7 @@ load_thread_kept s e t entry sp tables small low d h = record {
   alone = h.alone;
   initialized = initialized-kept (slice_set s.enclaves e x) s.threads t y q (λ f r. absurd (still-ready _ e refl f r)) (initialized-enclave s.enclaves s.threads e x p (λ i. i) h.initialized);
   placed = placed-enclave s.shape s.enclaves s.loaded e x p filled.placed h.placed;
-  roots = roots-enclave s.shape s.enclaves e x p filled.roots h.roots;
+  root_pages = roots-enclave s.shape s.enclaves e x p filled.root_pages h.root_pages;
   rootless = rootless-enclave s.enclaves s.loaded e x p filled.rootless h.rootless;
 }
   where
@@ -388,7 +388,7 @@ delete_thread_kept s e t tables small low d h = record {
   alone = h.alone;
   initialized = initialized-kept (slice_set s.enclaves e x) s.threads t empty_thread q (λ f r. absurd (running-empty f r)) (initialized-enclave s.enclaves s.threads e x p (λ i. i) h.initialized);
   placed = placed-enclave s.shape s.enclaves s.loaded e x p filled.placed h.placed;
-  roots = roots-enclave s.shape s.enclaves e x p filled.roots h.roots;
+  root_pages = roots-enclave s.shape s.enclaves e x p filled.root_pages h.root_pages;
   rootless = rootless-enclave s.enclaves s.loaded e x p filled.rootless h.rootless;
 }
   where
@@ -424,7 +424,7 @@ enter_kept s core e t tables small low os d h = record {
   alone = alone-entered s.threads s.modes core e t there (still-ready _ e was) h.inside h.alone;
   initialized = initialized-kept s.enclaves s.threads t x q (λ f r. subst (λ (n : ℕ). is_initialized (enclave_at s n).stage ≡ true) (same_slot e f r) init) h.initialized;
   placed = h.placed;
-  roots = h.roots;
+  root_pages = h.root_pages;
   rootless = h.rootless;
 }
   where
@@ -455,7 +455,7 @@ leave_kept s core e t x tables small low is state h = record {
   alone = alone-left s.modes core there h.alone;
   initialized = initialized-kept s.enclaves s.threads t x q (λ f r. absurd (still-ready _ e new f r)) h.initialized;
   placed = h.placed;
-  roots = h.roots;
+  root_pages = h.root_pages;
   rootless = h.rootless;
 }
   where
@@ -494,7 +494,7 @@ effect_kept : (s : State) (core : ℕ) (call : Call) (digest : List ℕ) (k : �
 effect_kept s core (calls.Block r) digest k t c n w a d h = block_kept (mode_of s core) s core r k refl n t (omega (arith, a, t.whole.regions)) d h
 effect_kept s core (calls.Free r) digest k t c n w a d h = region_kept s r regions.Free (omega (arith, a, t.whole.regions)) (λ e. sym (free-unowned e (region_at s r) s.flushed d)) h
 effect_kept s core (calls.Assign r to) digest k t c n w a d h = assign_kept (nat_eq to os_word) s r to k (not_os to a.1) t (omega (arith, a.0, t.whole.regions)) d h
-effect_kept s core calls.Flush digest k t c n w a d h = record { sets = h.sets; blank = h.blank; counts = h.counts; inside = h.inside; running = h.running; alone = h.alone; initialized = h.initialized; placed = h.placed; roots = h.roots; rootless = h.rootless }
+effect_kept s core calls.Flush digest k t c n w a d h = record { sets = h.sets; blank = h.blank; counts = h.counts; inside = h.inside; running = h.running; alone = h.alone; initialized = h.initialized; placed = h.placed; root_pages = h.root_pages; rootless = h.rootless }
 effect_kept s core (calls.RegionInfo r) digest k t c n w a d h = h
 effect_kept s core (calls.Create e base size) digest k t c n w a d h = create_kept s e base size t a d h
 effect_kept s core (calls.LoadTable e va level page) digest k t c n w a d h =
@@ -561,6 +561,6 @@ start_kept shape = record {
   alone = λ core other e t m o. absurd (os-outside _ e t (same_everywhere shape.cores core modes.Os) m);
   initialized = λ e t r. absurd (still-empty _ (ap (λ (y : Thread). y.state) (same_everywhere 16 t empty_thread)) e r);
   placed = λ e load. absurd (true≢false (sym load ∙ ap (λ (y : Enclave). is_loading y.stage) (same_everywhere 8 e empty_enclave)));
-  roots = λ e page is. some-none page (sym (ap (λ (y : Enclave). y.root) (same_everywhere 8 e empty_enclave)) ∙ is);
+  root_pages = λ e page is. some-none page (sym (ap (λ (y : Enclave). y.root) (same_everywhere 8 e empty_enclave)) ∙ is);
   rootless = λ e none. same_everywhere {X = List Loaded} 8 e [];
 }

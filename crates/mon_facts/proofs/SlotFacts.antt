@@ -74,7 +74,7 @@ placed-weaker shape x y items more wider = All-weaker (IsPlaced shape x) (IsPlac
 
 pub record IsFilled (shape : Shape) (x : Enclave) (items : List Loaded) : Type 0 where
   pub placed : ArePlacedIn shape x items
-  pub roots : (page : ℕ) → x.root ≡ Some page → IsRootPlaced shape x page
+  pub root_pages : (page : ℕ) → x.root ≡ Some page → IsRootPlaced shape x page
   pub rootless : x.root ≡ None → items ≡ []
 
 -- `RootsArePlaced` and `RootlessAreEmpty` of the tables
@@ -104,7 +104,7 @@ pub filled-weaker : (shape : Shape) (x y : Enclave) (items : List Loaded) → y.
     → (is_loading y.stage ≡ true → (is_loading x.stage ≡ true) × ((r : ℕ) → has_bit x.regions r ≡ true → has_bit y.regions r ≡ true)) → IsFilled shape x items → IsFilled shape y items
 filled-weaker shape x y items root next wider h = record {
   placed = λ load. placed-weaker shape x y items (omega (arith, next)) (wider load).1 (h.placed (wider load).0);
-  roots = λ page is. (let was = h.roots page (sym root ∙ is) in record { below = omega (arith, was.below, next); in_set = λ load. (wider load).1 _ (was.in_set (wider load).0) });
+  root_pages = λ page is. (let was = h.root_pages page (sym root ∙ is) in record { below = omega (arith, was.below, next); in_set = λ load. (wider load).1 _ (was.in_set (wider load).0) });
   rootless = λ none. h.rootless (sym root ∙ none);
 }
 
@@ -115,7 +115,7 @@ some-none page e = absurd (cc)
 pub filled-none : (shape : Shape) (x : Enclave) → x.root ≡ None → IsFilled shape x []
 filled-none shape x none = record {
   placed = λ load. All-nil _;
-  roots = λ page is. some-none page (sym none ∙ is);
+  root_pages = λ page is. some-none page (sym none ∙ is);
   rootless = λ e. refl;
 }
 
@@ -127,7 +127,7 @@ filled-more shape x y items item root load le set next lies is low there h =
     let keeps : (r : ℕ) → has_bit x.regions r ≡ true → has_bit y.regions r ≡ true = λ r has. ap (λ (w : ℕ). has_bit w r) set ∙ has in
     record {
       placed = λ _. All-push (IsPlaced shape y) items item (placed-weaker shape x y items (omega arith) keeps (h.placed load)) (record { below = omega arith; in_set = λ kind. keeps _ (lies kind) });
-      roots = λ page e. subst (IsRootPlaced shape y) (some-same (sym is ∙ e)) (record { below = low; in_set = λ _. keeps _ there });
+      root_pages = λ page e. subst (IsRootPlaced shape y) (some-same (sym is ∙ e)) (record { below = low; in_set = λ _. keeps _ there });
       rootless = λ none. some-none root (sym none ∙ is);
     }
   where

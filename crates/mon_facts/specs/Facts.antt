@@ -134,5 +134,5 @@ pub record FactsHold (s : State) : Type 0 where
   pub alone : InsideAreAlone s
   pub initialized : RunningAreInitialized s
   pub placed : LoadedArePlaced s
-  pub roots : RootsArePlaced s
+  pub root_pages : RootsArePlaced s
   pub rootless : RootlessAreEmpty s

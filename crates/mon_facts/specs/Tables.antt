@@ -21,7 +21,7 @@ NamesSlots (modes.Inside e t) = (e < 8) × (t < 16)
 abbrev pub IsRooted : Enclave → Type 0
 IsRooted enclave = is_initialized enclave.stage ≡ true → has_root enclave ≡ true
 
--- An enclave slot has at most one item for each page below the next that it may take, which is at most
+-- An enclave slot has no more items than there are pages below the next that it may take, which is at most
 -- the number of the machine's pages, each item stands in a page of the machine, and there is a root once
 -- the enclave is Initialized.
 pub record IsSlot (shape : Shape) (enclave : Enclave) (items : List Loaded) : Type 0 where

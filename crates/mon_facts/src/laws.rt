@@ -4,7 +4,7 @@
 ghost use Rattle.mon_facts.specs.Laws.{StartHasTables, TablesStay, StartIsDated, DatesStay, DatesStayUnused, StartHasFacts, FactsStay};
 
 /// The tables are as long as the machine's shape says, each core that is inside an enclave names slots
-/// that are there, and no slot has more items than pages that it has taken.
+/// that are there, and no slot has more items than there are pages below the next that it may take.
 pub fn tables_stay()
     ensures first { StartHasTables }
     ensures next { TablesStay }

@@ -1,7 +1,7 @@
 //! What the calls on mailboxes answer once their objects are held.
 
 ghost use Rattle.std.specs.Prelude.{◌≡◌, ◌<◌, ◌++◌};
-ghost use Rattle.mon_types.specs.Replies.{done, told_eight};
+ghost use Rattle.mon_types.specs.Replies.{done, ok_with_eight};
 ghost use Rattle.mon_model.specs.MailCalls.{expects, send_reply, read_reply};
 
 use mon_types::{Enclave, Mailbox, Reply, Stage};
@@ -38,11 +38,11 @@ pub fn decide_send(own: u8, target: &Enclave, m: u8) -> Reply
 
 /// Ok with the words of a message, then its sender's measurement.
 fn message_reply(words: &[u64; 4], measure: &[u64; 4]) -> Reply
-    ensures { result ≡ told_eight (words.now ++ measure.now) }
+    ensures { result ≡ ok_with_eight (words.now ++ measure.now) }
 {
     let [w0, w1, w2, w3] = *words;
     let [m0, m1, m2, m3] = *measure;
-    Reply::told_eight([w0, w1, w2, w3, m0, m1, m2, m3])
+    Reply::ok_with_eight([w0, w1, w2, w3, m0, m1, m2, m3])
 }
 
 /// read of mailbox `m` of the enclave with the record `own`: InvalidState where the mailbox is not

@@ -3,7 +3,7 @@ use Rattle.std.proofs.Common.{◌≡◌, ℕ, zero, suc, ◌<◌, ◌≤◌, Boo
 use Rattle.std.proofs.Math.ListN.{set}
 use Rattle.std.specs.List.{list_all}
 use Rattle.std.proofs.lemmas.List.{length-set}
-use Rattle.std.proofs.lemmas.Bool.{cases_eq, eq-eqb, ne_eqb}
+use Rattle.std.proofs.lemmas.Bool.{cases_eq, eq-eqb, eqb-true, ne_eqb}
 use Rattle.mon_types.specs.declared.region.Owner.{Owner}
 use Rattle.mon_types.specs.declared.region.Owner.TheVariants as owners
 use Rattle.mon_types.specs.declared.region.Region.{Region}
@@ -30,7 +30,7 @@ use Rattle.mon_types.specs.Modes.{own_slot}
 use Rattle.mon_model.specs.Step.{held_reply, without_own_region, with_deleted, effect, or_else, reply_of}
 use Rattle.mon_model.specs.Tries.{held_tries, unless_refused, tried_set, own_enclave}
 use Rattle.mon_model.specs.OnRegion.{owner_made, withdraws, frees, sole_slot}
-use Rattle.mon_model.specs.RegionStep.{is_idle, RegionStep, Stays, Ends, Withdrawn, Frees, Begins, Offers, FlagsStages, AreInsideSlots}
+use Rattle.mon_model.specs.RegionStep.{MayBecome, RegionStep, Stays, Ends, Withdrawn, Frees, Begins, Offers, FlagsStages, AreInsideSlots}
 use Rattle.mon_model.specs.CallLaws.{StepsAsTold}
 use Rattle.mon_model.proofs.Writes.{at_one}
 use Rattle.mon_model.proofs.TriedSets.{tried_region}
@@ -64,7 +64,7 @@ free_is (regions.Blocked owner a b) is = refused is
 free_is (regions.Offered to a) is = refused is
 
 begins_free : (k : ℕ) (fl : List ℕ) (owner : Owner) (x : Region) → x ≡ regions.Free → RegionStep k fl false false (Some owner) x (regions.Owned owner k)
-begins_free k fl owner x is = Begins owner (ap is_idle is) refl refl refl refl
+begins_free k fl owner x is = Begins owner (subst (MayBecome owner) (sym is) tt) refl refl refl refl
 
 slot_case : (k : ℕ) (fl : List ℕ) (to : ℕ) (flag : Bool) (stage : Stage) (x : Region) → (is_loading stage ≡ true → flag ≡ false) → (is_initialized stage ≡ true → flag ≡ true)
     → is_done (if is_empty stage then replies.InvalidState else if is_free x then done else replies.InvalidState) ≡ true
@@ -87,7 +87,7 @@ accept_case : (k : ℕ) (fl : List ℕ) (own : ℕ) (x : Region) → is_done (ac
 accept_case k fl own regions.Free ok = refused ok
 accept_case k fl own (regions.Owned owner a) ok = refused ok
 accept_case k fl own (regions.Blocked owner a b) ok = refused ok
-accept_case k fl own (regions.Offered to a) ok = Begins (owners.Enclave own) refl refl refl refl refl
+accept_case k fl own (regions.Offered to a) ok = Begins (owners.Enclave own) (ap (λ (e : ℕ). owners.Enclave e) (eqb-true own to (if_done (own == to) replies.AccessDenied refl ok))) refl refl refl refl
 
 deleted_case : (k : ℕ) (fl : List ℕ) (x : Region) → RegionStep k fl true false None x (deleted x k)
 deleted_case k fl regions.Free = Stays refl refl refl refl

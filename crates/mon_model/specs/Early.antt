@@ -2,6 +2,7 @@
 -- project's own.
 use Rattle.std.specs.Prelude.{ℕ, ◌+◌, ◌/◌, ◌%◌, ◌^◌, Bool, true, false, ◌==◌, ◌||◌, ◌&&◌, not, nat_lt, nat_le, if◌then◌else◌, Option, Some, None}
 use Rattle.mon_types.specs.Shape.{Shape, page_total}
+use Rattle.mon_types.specs.Sizes.{page_bytes, slot_count, thread_count, address_end}
 use Rattle.mon_types.specs.declared.thread.Mode.{Mode}
 use Rattle.mon_types.specs.declared.thread.Mode.TheVariants as modes
 use Rattle.mon_types.specs.declared.call.Call.{Call}
@@ -17,31 +18,31 @@ pub data Caller : Type 0 where
   AnEnclave : Caller
 
 -- who may make each call
-abbrev pub caller_of : Call → Caller
-caller_of (calls.Block r) = Anyone
-caller_of (calls.Free r) = TheOs
-caller_of (calls.Assign r to) = TheOs
-caller_of calls.Flush = TheOs
-caller_of (calls.RegionInfo r) = Anyone
-caller_of (calls.Create e base size) = TheOs
-caller_of (calls.LoadTable e va level page) = TheOs
-caller_of (calls.LoadPage e va page src perms) = TheOs
-caller_of (calls.LoadThread e t entry sp) = TheOs
-caller_of (calls.Init e) = TheOs
-caller_of (calls.DeleteThread e t) = TheOs
-caller_of (calls.Delete e) = TheOs
-caller_of (calls.Enter e t) = TheOs
-caller_of calls.Exit = AnEnclave
-caller_of (calls.Aex saved) = AnEnclave
-caller_of calls.Restore = AnEnclave
-caller_of (calls.Accept m from) = AnEnclave
-caller_of (calls.Send to m w0 w1 w2 w3) = AnEnclave
-caller_of (calls.Read m) = AnEnclave
-caller_of (calls.EnclaveInfo e) = Anyone
-caller_of (calls.SetSatp v) = TheOs
-caller_of (calls.AcceptRegion r) = AnEnclave
-caller_of (calls.Reserve e va page perms) = TheOs
-caller_of (calls.Unknown number args) = Anyone
+abbrev pub allowed_caller : Call → Caller
+allowed_caller (calls.Block r) = Anyone
+allowed_caller (calls.Free r) = TheOs
+allowed_caller (calls.Assign r to) = TheOs
+allowed_caller calls.Flush = TheOs
+allowed_caller (calls.RegionInfo r) = Anyone
+allowed_caller (calls.Create e base size) = TheOs
+allowed_caller (calls.LoadTable e va level page) = TheOs
+allowed_caller (calls.LoadPage e va page src perms) = TheOs
+allowed_caller (calls.LoadThread e t entry sp) = TheOs
+allowed_caller (calls.Init e) = TheOs
+allowed_caller (calls.DeleteThread e t) = TheOs
+allowed_caller (calls.Delete e) = TheOs
+allowed_caller (calls.Enter e t) = TheOs
+allowed_caller calls.Exit = AnEnclave
+allowed_caller (calls.Aex saved) = AnEnclave
+allowed_caller calls.Restore = AnEnclave
+allowed_caller (calls.Accept m from) = AnEnclave
+allowed_caller (calls.Send to m w0 w1 w2 w3) = AnEnclave
+allowed_caller (calls.Read m) = AnEnclave
+allowed_caller (calls.EnclaveInfo e) = Anyone
+allowed_caller (calls.SetSatp v) = TheOs
+allowed_caller (calls.AcceptRegion r) = AnEnclave
+allowed_caller (calls.Reserve e va page perms) = TheOs
+allowed_caller (calls.Unknown number args) = Anyone
 
 -- whether a core in this mode is none of these
 abbrev pub shuts_out : Caller → Mode → Bool
@@ -54,7 +55,7 @@ shuts_out AnEnclave (modes.Inside e t) = false
 
 -- whether a core in this mode may not make the call
 abbrev pub is_wrong_mode : Mode → Call → Bool
-is_wrong_mode mode call = shuts_out (caller_of call) mode
+is_wrong_mode mode call = shuts_out (allowed_caller call) mode
 
 -- whether the call has no known number
 abbrev pub is_unsupported : Call → Bool
@@ -85,13 +86,13 @@ is_unsupported (calls.Unknown number args) = true
 
 -- ---- arguments out of range
 
--- no enclave slot, no thread slot, no mailbox
+-- no enclave slot
 abbrev pub is_no_slot : ℕ → Bool
-is_no_slot e = nat_le 8 e
+is_no_slot e = nat_le slot_count e
 
 -- no thread slot
 abbrev pub is_no_thread : ℕ → Bool
-is_no_thread t = nat_le 16 t
+is_no_thread t = nat_le thread_count t
 
 -- no mailbox of an enclave
 abbrev pub is_no_mailbox : ℕ → Bool
@@ -111,7 +112,7 @@ is_no_page shape page = nat_le (page_total shape) page
 
 -- no multiple of 4,096, or not below 2 ^ 38
 abbrev pub is_bad_address : ℕ → Bool
-is_bad_address va = not (va % 4096 == 0) || nat_le (2 ^ 38) va
+is_bad_address va = not (va % page_bytes == 0) || nat_le address_end va
 
 -- not R, RW, RX, X or RWX
 abbrev pub are_bad_perms : ℕ → Bool
@@ -119,7 +120,8 @@ are_bad_perms perms = not (perms == 1 || perms == 3 || perms == 4 || perms == 5 
 
 -- a range of whole pages, not empty, that ends at 2 ^ 38 or below
 abbrev pub is_bad_range : ℕ → ℕ → Bool
-is_bad_range base size = not (base % 4096 == 0) || not (size % 4096 == 0) || size == 0 || nat_lt (2 ^ 38) (base + size)
+is_bad_range base size =
+    not (base % page_bytes == 0) || not (size % page_bytes == 0) || size == 0 || nat_lt address_end (base + size)
 
 -- a table's level is 0, 1 or 2, and that of level 2 stands for address 0
 abbrev pub is_bad_level : ℕ → ℕ → Bool

@@ -1,4 +1,4 @@
--- Calls on enclaves: create, load_table, load_page, reserve, init, delete, enclave_info and set_satp.
+-- Calls on enclaves: create, load_table, load_page, reserve, init, delete and enclave_info.
 -- This project's own.
 use Rattle.std.specs.Prelude.{ℕ, ◌+◌, Bool, false, ◌==◌, ◌||◌, ◌&&◌, not, if◌then◌else◌, List, ◌∷◌, Some}
 use Rattle.mon_types.specs.Shape.{Shape}
@@ -11,7 +11,7 @@ use Rattle.mon_types.specs.declared.enclave.Enclave.{Enclave}
 use Rattle.mon_types.specs.declared.thread.Mode.TheVariants as modes
 use Rattle.mon_types.specs.declared.reply.Reply.{Reply}
 use Rattle.mon_types.specs.declared.reply.Reply.TheVariants as replies
-use Rattle.mon_types.specs.Replies.{done_if, told_eight}
+use Rattle.mon_types.specs.Replies.{done_if, ok_with_eight}
 use Rattle.mon_model.specs.RegionCalls.{acts_for, is_empty, is_loading}
 use Rattle.mon_model.specs.Loading.{in_range, has_root, takes_page, reserves_page, has_place_for_table, has_place_for_leaf}
 use Rattle.mon_model.specs.Measure.{Item, Table, Page, Init, reserved_level, measure_created, measure_with}
@@ -66,7 +66,7 @@ abbrev pub reserve_reply : Shape → Enclave → List Loaded → ℕ → ℕ →
 reserve_reply shape enclave items va page =
     done_if (reserves_page shape enclave page && leaf_fits enclave va && has_place_for_leaf items va)
 
--- the record after a table, a page or a reserved page
+-- the record after a table
 abbrev pub with_table : Enclave → ℕ → ℕ → ℕ → Enclave
 with_table enclave va level page =
     let root = if level == 2 then Some page else enclave.root in
@@ -109,4 +109,4 @@ deleted (regions.Offered to at) k = regions.Offered to at
 -- stage, base, size, region set, measurement
 abbrev pub enclave_info_reply : Enclave → Reply
 enclave_info_reply enclave =
-    told_eight (stage_code enclave.stage ∷ enclave.base ∷ enclave.size ∷ enclave.regions ∷ enclave.measure)
+    ok_with_eight (stage_code enclave.stage ∷ enclave.base ∷ enclave.size ∷ enclave.regions ∷ enclave.measure)

@@ -17,7 +17,7 @@ use Rattle.mon_types.specs.declared.call.Call.TheVariants as calls
 use Rattle.mon_types.specs.declared.reply.Reply.{Reply}
 use Rattle.mon_types.specs.declared.reply.Reply.TheVariants as replies
 use Rattle.mon_model.specs.State.{State, mode_of, region_at, enclave_at, thread_at, loaded_at}
-use Rattle.mon_types.specs.Replies.{done, told, told_four, told_eight, is_concurrent, done_if}
+use Rattle.mon_types.specs.Replies.{done, ok_with_word, ok_with_four, ok_with_eight, is_concurrent, done_if}
 use Rattle.mon_types.specs.Owns.{os_word}
 use Rattle.mon_model.specs.Early.{is_unsupported, is_wrong_mode, is_bad_value}
 use Rattle.mon_model.specs.RegionCalls.{acts_for, is_empty, is_free, block_reply, free_reply, assign_reply, owner_word, region_info_reply, accept_region_reply}
@@ -31,9 +31,9 @@ use Rattle.mon_model.specs.Step.{assignee, held_reply, or_else, reply_of}
 -- a fact that holds of each kind of reply that the sequential monitor gives
 pub record HoldsOfReplies (P : Reply → Type 0) : Type 0 where
   pub done : P done
-  pub told : (a : ℕ) → P (told a)
-  pub told_four : (a b c d : ℕ) → P (told_four a b c d)
-  pub told_eight : (words : List ℕ) → P (told_eight words)
+  pub ok_with_word : (a : ℕ) → P (ok_with_word a)
+  pub ok_with_four : (a b c d : ℕ) → P (ok_with_four a b c d)
+  pub ok_with_eight : (words : List ℕ) → P (ok_with_eight words)
   pub invalid_value : P replies.InvalidValue
   pub invalid_state : P replies.InvalidState
   pub access_denied : P replies.AccessDenied
@@ -66,10 +66,10 @@ assign_has P h None region = done_if_has P h (is_free region)
 assign_has P h (Some to) region = chosen P (is_empty to.stage) replies.InvalidState (done_if (is_free region)) h.invalid_state (done_if_has P h (is_free region))
 
 region_info_has : (P : Reply → Type 0) → HoldsOfReplies P → (region : Region) → P (region_info_reply region)
-region_info_has P h regions.Free = h.told_four 0 os_word 0 0
-region_info_has P h (regions.Owned owner since) = h.told_four 1 (owner_word owner) since 0
-region_info_has P h (regions.Blocked owner since at) = h.told_four 2 (owner_word owner) since at
-region_info_has P h (regions.Offered to at) = h.told_four 3 to 0 at
+region_info_has P h regions.Free = h.ok_with_four 0 os_word 0 0
+region_info_has P h (regions.Owned owner since) = h.ok_with_four 1 (owner_word owner) since 0
+region_info_has P h (regions.Blocked owner since at) = h.ok_with_four 2 (owner_word owner) since at
+region_info_has P h (regions.Offered to at) = h.ok_with_four 3 to 0 at
 
 accept_region_has : (P : Reply → Type 0) → HoldsOfReplies P → (own : ℕ) (region : Region) → P (accept_region_reply own region)
 accept_region_has P h own regions.Free = h.invalid_state
@@ -80,7 +80,7 @@ accept_region_has P h own (regions.Offered to at) = chosen P (nat_eq own to) don
 mail_has : (P : Reply → Type 0) → HoldsOfReplies P → (mailbox : Mailbox) → P (mail_reply mailbox)
 mail_has P h boxes.Closed = h.invalid_state
 mail_has P h (boxes.Expecting from) = h.invalid_state
-mail_has P h (boxes.Full from words measure) = h.told_eight (words ++ measure)
+mail_has P h (boxes.Full from words measure) = h.ok_with_eight (words ++ measure)
 
 load_page_has : (P : Reply → Type 0) → HoldsOfReplies P → (shape : Shape) (enclave : Enclave) (items : List Loaded) (source : Region) (va page : ℕ) → P (load_page_reply shape enclave items source va page)
 load_page_has P h shape enclave items source va page =
@@ -88,7 +88,7 @@ load_page_has P h shape enclave items source va page =
     (chosen P (is_os_owned source) (done_if (has_place_for_leaf items va)) replies.AccessDenied (done_if_has P h (has_place_for_leaf items va)) h.access_denied) h.invalid_state
 
 restore_has : (P : Reply → Type 0) → HoldsOfReplies P → (thread : Thread) → P (restore_reply thread)
-restore_has P h thread = chosen P (nat_eq thread.saved_at 0) replies.InvalidState (told thread.saved_at) h.invalid_state (h.told thread.saved_at)
+restore_has P h thread = chosen P (nat_eq thread.saved_at 0) replies.InvalidState (ok_with_word thread.saved_at) h.invalid_state (h.ok_with_word thread.saved_at)
 
 held_has : (P : Reply → Type 0) → HoldsOfReplies P → (s : State) (core : ℕ) (call : Call) → P (held_reply s core call)
 held_has P h s core (calls.Block r) = block_has P h (mode_of s core) (region_at s r)
@@ -110,7 +110,7 @@ held_has P h s core calls.Restore = restore_has P h (thread_at s (own_thread (mo
 held_has P h s core (calls.Accept m from) = h.done
 held_has P h s core (calls.Send to m w0 w1 w2 w3) = done_if_has P h _
 held_has P h s core (calls.Read m) = mail_has P h (mailbox_at (enclave_at s (own_slot (mode_of s core))) m)
-held_has P h s core (calls.EnclaveInfo e) = h.told_eight _
+held_has P h s core (calls.EnclaveInfo e) = h.ok_with_eight _
 held_has P h s core (calls.SetSatp v) = h.done
 held_has P h s core (calls.AcceptRegion r) = accept_region_has P h (own_slot (mode_of s core)) (region_at s r)
 held_has P h s core (calls.Reserve e va page perms) = done_if_has P h _
@@ -130,9 +130,9 @@ reply_has P h s core call = early_has P h (is_unsupported call) (is_wrong_mode (
 pub never_met : (s : State) (core : ℕ) (call : Call) → is_concurrent (reply_of s core call) ≡ false
 never_met s core call = reply_has (λ reply. is_concurrent reply ≡ false) (record {
   done = refl;
-  told = λ a. refl;
-  told_four = λ a b c d. refl;
-  told_eight = λ words. refl;
+  ok_with_word = λ a. refl;
+  ok_with_four = λ a b c d. refl;
+  ok_with_eight = λ words. refl;
   invalid_value = refl;
   invalid_state = refl;
   access_denied = refl;

@@ -30,7 +30,8 @@ after_call reply tried rest = record { replies = reply ∷ rest.replies; tried =
 abbrev pub run_from : List ℕ → State → ℕ → List Call → Run
 run_from digest s k [] = record { replies = []; tried = []; last = s }
 run_from digest s k (call ∷ rest) =
-    after_call (monitor_step s 0 call digest k).1 (tried_set (tries s 0 call)) (run_from digest (monitor_step s 0 call digest k).0 (k + 1) rest)
+    after_call (monitor_step s 0 call digest k).1 (tried_set (tries s 0 call))
+    (run_from digest (monitor_step s 0 call digest k).0 (k + 1) rest)
 
 -- from the start, with tickets 1, 2 and so on
 abbrev pub run : List ℕ → Shape → List Call → Run
@@ -102,7 +103,9 @@ give e a b c d =
 -- It loads three tables, and a copy of page 1 that can be read and run: 4 calls. A region's one page
 -- has the region's number.
 abbrev pub load : ℕ → ℕ → ℕ → ℕ → ℕ → List Call
-load e a b c d = calls.LoadTable e 0 2 a ∷ calls.LoadTable e 65536 1 b ∷ calls.LoadTable e 65536 0 c ∷ calls.LoadPage e 65536 d 1 5 ∷ []
+load e a b c d =
+    calls.LoadTable e 0 2 a ∷ calls.LoadTable e 65536 1 b ∷ calls.LoadTable e 65536 0 c
+    ∷ calls.LoadPage e 65536 d 1 5 ∷ []
 
 -- It loads a thread, and ends the loading: 2 calls.
 abbrev pub finish : ℕ → ℕ → List Call
@@ -139,7 +142,8 @@ small_measure digest = measure_with_all (measure_created 65536 16384) (small_loa
 abbrev pub answered : List ℕ → List Call → List Reply → List Answered
 answered digest [] replies = []
 answered digest (call ∷ rest) [] = []
-answered digest (call ∷ rest) (reply ∷ replies) = record { call = call; reply = reply; digest = digest } ∷ answered digest rest replies
+answered digest (call ∷ rest) (reply ∷ replies) =
+    record { call = call; reply = reply; digest = digest } ∷ answered digest rest replies
 
 -- the items of a slot in a run of these calls
 abbrev pub run_items : List ℕ → Shape → List Call → ℕ → List Item
@@ -187,7 +191,8 @@ own_region_blocked = finished ++ calls.Enter 0 0 ∷ calls.Block 4 ∷ calls.Aex
 
 -- it can be deleted once its thread is; region 4 is then blocked as it was
 abbrev pub own_region_freed : List Call
-own_region_freed = own_region_blocked ++ calls.Delete 0 ∷ calls.DeleteThread 0 0 ∷ calls.Delete 0 ∷ calls.Flush ∷ calls.Free 4 ∷ []
+own_region_freed =
+    own_region_blocked ++ calls.Delete 0 ∷ calls.DeleteThread 0 0 ∷ calls.Delete 0 ∷ calls.Flush ∷ calls.Free 4 ∷ []
 
 -- ---- offers
 
@@ -199,7 +204,8 @@ offered = finished ++ calls.Block 12 ∷ calls.Flush ∷ calls.Free 12 ∷ calls
 abbrev pub offer_and_accept_calls : List Call
 offer_and_accept_calls =
     offered
-    ++ calls.RegionInfo 12 ∷ calls.Enter 0 0 ∷ calls.AcceptRegion 12 ∷ calls.AcceptRegion 12 ∷ calls.Exit ∷ calls.EnclaveInfo 0 ∷ []
+    ++ calls.RegionInfo 12 ∷ calls.Enter 0 0 ∷ calls.AcceptRegion 12 ∷ calls.AcceptRegion 12 ∷ calls.Exit
+    ∷ calls.EnclaveInfo 0 ∷ []
 
 -- the OS takes the offer back at ticket 25
 abbrev pub offer_withdrawn_calls : List Call
@@ -211,14 +217,17 @@ reserved_page_calls =
     loaded
     ++ calls.Reserve 0 69632 12 3 ∷ []
     ++ finish 0 0
-    ++ calls.Enter 0 0 ∷ calls.Aex (saved_words 65536 5) ∷ calls.Block 12 ∷ calls.Flush ∷ calls.Free 12 ∷ calls.Assign 12 0
+    ++ calls.Enter 0 0 ∷ calls.Aex (saved_words 65536 5) ∷ calls.Block 12 ∷ calls.Flush ∷ calls.Free 12
+    ∷ calls.Assign 12 0
     ∷ calls.Enter 0 0 ∷ calls.AcceptRegion 12 ∷ calls.Exit ∷ []
 
 -- ---- calls that are refused before any object is tried
 
 -- no such number, twice; not in an enclave; an ASID that is not 0
 abbrev pub refused_early : List Call
-refused_early = calls.Unknown 99 (replicate 6 0) ∷ calls.Unknown 15 (replicate 6 0) ∷ calls.Exit ∷ calls.SetSatp 0x8000100000000000 ∷ []
+refused_early =
+    calls.Unknown 99 (replicate 6 0) ∷ calls.Unknown 15 (replicate 6 0) ∷ calls.Exit ∷ calls.SetSatp 0x8000100000000000
+    ∷ []
 
 -- the range would end past 2 ^ 64
 abbrev pub create_overflow_calls : List Call

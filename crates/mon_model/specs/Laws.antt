@@ -55,7 +55,8 @@ pub record SameCall (s t : State) (core : ℕ) (call : Call) (digest : List ℕ)
   pub reply : (monitor_step t core call digest ticket).1 ≡ (monitor_step s core call digest ticket).1
   pub objects : tries t core call ≡ tries s core call
   pub records :
-      AgreeOn (monitor_step s core call digest ticket).0 (monitor_step t core call digest ticket).0 core (tries s core call)
+      AgreeOn (monitor_step s core call digest ticket).0 (monitor_step t core call digest ticket).0 core
+      (tries s core call)
 
 -- a call reads no record but those of the objects that it tries, and its core's mode
 abbrev pub ReadsOnlyTried : Type 0
@@ -63,7 +64,7 @@ ReadsOnlyTried =
     (s t : State) (core : ℕ) (call : Call) (digest : List ℕ) (ticket : ℕ) → IsWhole s → IsWhole t
     → AgreeOn s t core (tries s core call) → SameCall s t core call digest ticket
 
--- the start is whole, and each call leaves a whole state whole
+-- the start is whole
 abbrev pub StartIsWhole : Type 0
 StartIsWhole = (shape : Shape) → IsWhole (start shape)
 

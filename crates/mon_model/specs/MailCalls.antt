@@ -6,7 +6,7 @@ use Rattle.mon_types.specs.declared.enclave.Mailbox.TheVariants as boxes
 use Rattle.mon_types.specs.declared.enclave.Enclave.{Enclave}
 use Rattle.mon_types.specs.declared.reply.Reply.{Reply}
 use Rattle.mon_types.specs.declared.reply.Reply.TheVariants as replies
-use Rattle.mon_types.specs.Replies.{told_eight, done_if}
+use Rattle.mon_types.specs.Replies.{ok_with_eight, done_if}
 use Rattle.mon_model.specs.RegionCalls.{is_initialized}
 
 -- mailbox m of an enclave
@@ -39,7 +39,7 @@ sent own words measure = boxes.Full own words measure
 abbrev pub mail_reply : Mailbox → Reply
 mail_reply boxes.Closed = replies.InvalidState
 mail_reply (boxes.Expecting from) = replies.InvalidState
-mail_reply (boxes.Full from words measure) = told_eight (words ++ measure)
+mail_reply (boxes.Full from words measure) = ok_with_eight (words ++ measure)
 
 -- a full mailbox is read
 abbrev pub read_reply : Enclave → ℕ → Reply

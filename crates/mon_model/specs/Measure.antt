@@ -50,7 +50,7 @@ to_words bytes =
 abbrev pub to_bytes : List ℕ → List ℕ
 to_bytes words = flat_map number_bytes words
 
--- the words of a new enclave's measurement, and those after one more item
+-- the words of a new enclave's measurement
 unfoldable pub measure_created : ℕ → ℕ → List ℕ
 measure_created base size = to_words (extend chain_start (Create base size))
 

@@ -42,7 +42,7 @@ items_after e items x = if is_done x.reply then items_by e x.call x.digest items
 abbrev pub items_of : List Answered → ℕ → List Item
 items_of h e = fold (items_after e) [] h
 
--- the digest at the end of a chain over these items, and its four words
+-- the digest at the end of a chain over these items
 abbrev pub chain_of : List Item → List ℕ
 chain_of items = fold extend chain_start items
 

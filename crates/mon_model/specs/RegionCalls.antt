@@ -14,9 +14,9 @@ use Rattle.mon_types.specs.declared.reply.Reply.{Reply}
 use Rattle.mon_types.specs.declared.reply.Reply.TheVariants as replies
 use Rattle.mon_types.specs.Bits.{with_bit, without_bit}
 use Rattle.mon_types.specs.Owns.{os_word}
-use Rattle.mon_types.specs.Replies.{done, told_four}
+use Rattle.mon_types.specs.Replies.{done, ok_with_four}
 
--- the enclave loses, or gains, a region
+-- the enclave loses a region
 abbrev pub loses_region : Enclave → ℕ → Enclave
 loses_region enclave r = record enclave { regions = without_bit enclave.regions r }
 
@@ -112,10 +112,10 @@ owner_word (owners.Enclave e) = e
 
 -- state, owner, since, at
 abbrev pub region_info_reply : Region → Reply
-region_info_reply regions.Free = told_four 0 os_word 0 0
-region_info_reply (regions.Owned owner since) = told_four 1 (owner_word owner) since 0
-region_info_reply (regions.Blocked owner since at) = told_four 2 (owner_word owner) since at
-region_info_reply (regions.Offered to at) = told_four 3 to 0 at
+region_info_reply regions.Free = ok_with_four 0 os_word 0 0
+region_info_reply (regions.Owned owner since) = ok_with_four 1 (owner_word owner) since 0
+region_info_reply (regions.Blocked owner since at) = ok_with_four 2 (owner_word owner) since at
+region_info_reply (regions.Offered to at) = ok_with_four 3 to 0 at
 
 -- ---- accept_region, by the enclave in this slot
 

@@ -25,6 +25,13 @@ is_idle (regions.Owned owner since) = false
 is_idle (regions.Blocked owner since at) = false
 is_idle (regions.Offered to at) = true
 
+-- who may become the owner: of a free region anybody, of one that is offered the enclave to which it was offered
+abbrev pub MayBecome : Owner → Region → Type 0
+MayBecome owner regions.Free = Unit {0}
+MayBecome owner (regions.Owned other since) = ⊥
+MayBecome owner (regions.Blocked other since at) = ⊥
+MayBecome owner (regions.Offered to at) = owner ≡ owners.Enclave to
+
 -- Region x becomes y at ticket k, where the cells stand at `flushed`. `ended`, `freed` and `made` are what the
 -- call tells of the region: that it takes it from its owner, that it frees it, whom it makes its owner.
 pub data RegionStep (k : ℕ) (flushed : List ℕ) (ended freed : Bool) (made : Option Owner) (x y : Region) : Type 0 where
@@ -42,7 +49,7 @@ pub data RegionStep (k : ℕ) (flushed : List ℕ) (ended freed : Bool) (made : 
       → list_all (λ ticket. nat_le b ticket) flushed ≡ true
       → ended ≡ false → freed ≡ true → made ≡ None → RegionStep k flushed ended freed made x y
   -- an owner's time begins
-  Begins : (owner : Owner) → is_idle x ≡ true → y ≡ regions.Owned owner k
+  Begins : (owner : Owner) → MayBecome owner x → y ≡ regions.Owned owner k
       → ended ≡ false → freed ≡ false → made ≡ Some owner → RegionStep k flushed ended freed made x y
   -- it is offered
   Offers : (to : ℕ) → x ≡ regions.Free → y ≡ regions.Offered to k

@@ -2,6 +2,7 @@
 use Rattle.std.specs.Prelude.{◌≡◌, ℕ, List, [], length, replicate, slice_set}
 use Rattle.std.specs.List.{slice_index_or}
 use Rattle.mon_types.specs.Shape.{Shape}
+use Rattle.mon_types.specs.Sizes.{slot_count, thread_count}
 use Rattle.mon_types.specs.Enclaves.{empty_enclave}
 use Rattle.mon_types.specs.Threads.{empty_thread}
 use Rattle.mon_types.specs.declared.region.Owner.TheVariants as owners
@@ -30,21 +31,21 @@ abbrev pub start : Shape → State
 start shape = record {
   shape = shape;
   regions = replicate shape.regions (regions.Owned owners.Os 0);
-  enclaves = replicate 8 empty_enclave;
-  threads = replicate 16 empty_thread;
+  enclaves = replicate slot_count empty_enclave;
+  threads = replicate thread_count empty_thread;
   flushed = replicate shape.cores 0;
   modes = replicate shape.cores modes.Os;
-  loaded = replicate 8 [];
+  loaded = replicate slot_count [];
 }
 
 -- the tables are as long as the machine's shape says
 pub record IsWhole (s : State) : Type 0 where
   pub regions : length s.regions ≡ s.shape.regions
-  pub enclaves : length s.enclaves ≡ 8
-  pub threads : length s.threads ≡ 16
+  pub enclaves : length s.enclaves ≡ slot_count
+  pub threads : length s.threads ≡ thread_count
   pub flushed : length s.flushed ≡ s.shape.cores
   pub modes : length s.modes ≡ s.shape.cores
-  pub loaded : length s.loaded ≡ 8
+  pub loaded : length s.loaded ≡ slot_count
 
 -- What a table has at a number. No call asks past a table's end; what stands there is named for
 -- completeness alone.

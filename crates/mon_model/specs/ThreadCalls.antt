@@ -7,7 +7,7 @@ use Rattle.mon_types.specs.declared.thread.ThreadState.TheVariants as states
 use Rattle.mon_types.specs.declared.thread.Thread.{Thread}
 use Rattle.mon_types.specs.declared.reply.Reply.{Reply}
 use Rattle.mon_types.specs.declared.reply.Reply.TheVariants as replies
-use Rattle.mon_types.specs.Replies.{told, done_if}
+use Rattle.mon_types.specs.Replies.{ok_with_word, done_if}
 use Rattle.mon_model.specs.RegionCalls.{is_loading, is_initialized}
 use Rattle.mon_model.specs.Measure.{Thread as ThreadItem}
 use Rattle.mon_model.specs.EnclaveCalls.{measured}
@@ -81,7 +81,7 @@ left_saving thread saved k = record thread { state = stopped thread.state; saved
 
 -- what was saved is given back, with the ticket of the save, where something was saved
 abbrev pub restore_reply : Thread → Reply
-restore_reply thread = if thread.saved_at == 0 then replies.InvalidState else told thread.saved_at
+restore_reply thread = if thread.saved_at == 0 then replies.InvalidState else ok_with_word thread.saved_at
 
 -- the thread with nothing saved
 abbrev pub restored : Thread → Thread

@@ -80,11 +80,12 @@ plan shape core mode (calls.AcceptRegion r) region set = own_enclave mode ++ obj
 plan shape core mode (calls.Reserve e va page perms) region set = objects.Enclave e ∷ []
 plan shape core mode (calls.Unknown number args) region set = []
 
--- the region that a free names, and the enclave slot that a delete names; 0 for other calls, whose plan looks at neither
+-- the region that a free names; 0 for other calls, whose plan looks at no region
 abbrev pub freed_by : Call → ℕ
 freed_by (calls.Free r) = r
 freed_by _ = 0
 
+-- the enclave slot that a delete names; 0 for other calls, whose plan looks at no set
 abbrev pub deleted_by : Call → ℕ
 deleted_by (calls.Delete e) = e
 deleted_by _ = 0

@@ -5,7 +5,7 @@ ghost use Rattle.mon_types.specs.declared.region.Owner.TheVariants as owners;
 ghost use Rattle.mon_types.specs.declared.region.Region.TheVariants as regions;
 ghost use Rattle.mon_types.specs.declared.reply.Reply.TheVariants as replies;
 ghost use Rattle.mon_model.specs.State.{region_at};
-ghost use Rattle.mon_types.specs.Replies.{done, told_four, told_eight};
+ghost use Rattle.mon_types.specs.Replies.{done, ok_with_four, ok_with_eight};
 ghost use Rattle.mon_model.specs.Measure.{Create, Table, Page, Thread, Init};
 ghost use Rattle.mon_model.specs.Tries.{tried_set};
 ghost use Rattle.mon_model.specs.Examples.{run, sixteen, e0, t0, c0, r12, small_measure, run_items, offered, offer_and_accept_calls, offer_withdrawn_calls, reserved_page_calls};
@@ -13,7 +13,7 @@ ghost use Rattle.mon_model.specs.Examples.{run, sixteen, e0, t0, c0, r12, small_
 /// The OS offers a region to an enclave that runs, which accepts it once and then owns it; its region
 /// set is then that of regions 2 to 5 and 12.
 pub fn offer_and_accept()
-    ensures replies { (digest : List ℕ) → (run digest sixteen offer_and_accept_calls).replies ≡ replicate 24 done ++ told_four 3 0 0 24 ∷ done ∷ done ∷ replies.InvalidState ∷ done ∷ told_eight (2 ∷ 65536 ∷ 16384 ∷ 4156 ∷ small_measure digest) ∷ [] }
+    ensures replies { (digest : List ℕ) → (run digest sixteen offer_and_accept_calls).replies ≡ replicate 24 done ++ ok_with_four 3 0 0 24 ∷ done ∷ done ∷ replies.InvalidState ∷ done ∷ ok_with_eight (2 ∷ 65536 ∷ 16384 ∷ 4156 ∷ small_measure digest) ∷ [] }
     ensures tried { (digest : List ℕ) → drop 23 (run digest sixteen offer_and_accept_calls).tried ≡ tried_set (e0 ∷ r12 ∷ []) ∷ tried_set (r12 ∷ []) ∷ tried_set (e0 ∷ t0 ∷ []) ∷ tried_set (e0 ∷ r12 ∷ []) ∷ tried_set (e0 ∷ r12 ∷ []) ∷ tried_set (t0 ∷ []) ∷ tried_set (e0 ∷ []) ∷ [] }
     ensures offered { (digest : List ℕ) → region_at (run digest sixteen offered).last 12 ≡ regions.Offered 0 24 }
     ensures owned { (digest : List ℕ) → region_at (run digest sixteen offer_and_accept_calls).last 12 ≡ regions.Owned (owners.Enclave 0) 27 }

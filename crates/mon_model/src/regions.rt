@@ -8,7 +8,7 @@ ghost use Rattle.mon_types.specs.declared.call.Call.TheVariants as calls;
 ghost use Rattle.mon_types.specs.declared.reply.Reply.TheVariants as replies;
 ghost use Rattle.mon_model.specs.State.{region_at};
 ghost use Rattle.mon_types.specs.Owns.{os_word};
-ghost use Rattle.mon_types.specs.Replies.{done, told_four};
+ghost use Rattle.mon_types.specs.Replies.{done, ok_with_four};
 ghost use Rattle.mon_model.specs.Tries.{tried_set};
 ghost use Rattle.mon_model.specs.Examples.{run, largest, c0, c1, r3, first_path_calls, bad_region_calls, half_flushed_calls, refused_early};
 
@@ -39,7 +39,7 @@ pub fn free_asks_every_core()
 
 /// The last of 64 regions is the OS's from the start.
 pub fn largest_machine()
-    ensures { (digest : List ℕ) → (run digest largest (calls.RegionInfo 63 ∷ [])).replies ≡ told_four 1 os_word 0 0 ∷ [] }
+    ensures { (digest : List ℕ) → (run digest largest (calls.RegionInfo 63 ∷ [])).replies ≡ ok_with_four 1 os_word 0 0 ∷ [] }
 {}
 
 /// Calls of no known number, an exit outside any enclave and a satp with an ASID are refused with

@@ -15,8 +15,9 @@ changed reply s core call digest ticket = if is_done reply then effect s core ca
 unfoldable pub without_items : State → State
 without_items s = record s { loaded = replicate 8 [] }
 
--- The reply is decided by the records of the objects that are tried: so it is of every call but load_table below level
--- 2, load_page and reserve, which go by loaded items, and in the machine by words of page tables.
+-- The reply is decided by the records of the objects that are tried alone, by the kind of the call: it is for every
+-- call but a load_table that names no root, a load_page and a reserve, which may go by loaded items, and in the machine
+-- by words of page tables.
 abbrev pub IsDecidedByRecords : Call → Type 0
 IsDecidedByRecords (calls.LoadTable e va level page) = level ≡ 2
 IsDecidedByRecords (calls.LoadPage e va page src perms) = ⊥

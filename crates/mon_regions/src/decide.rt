@@ -3,16 +3,16 @@
 ghost use Rattle.std.specs.Prelude.{◌≡◌, nat_le};
 ghost use Rattle.std.specs.List.{list_all};
 ghost use Rattle.std.specs.Option.{option_copied};
-ghost use Rattle.mon_types.specs.Replies.{done, told_four};
+ghost use Rattle.mon_types.specs.Replies.{done, ok_with_four};
 ghost use Rattle.mon_model.specs.RegionCalls.{acts_for, owner_word, block_reply, free_reply, assign_reply, region_info_reply, accept_region_reply};
 
 use mon_types::{Enclave, Mode, OS_WORD, Owner, Region, Reply, Stage};
 
 /// Ok with four words: the state, the owner's word and two tickets.
 fn told_reply(state: u64, owner: u64, since: u32, at: u32) -> Reply
-    ensures { result ≡ told_four state owner since at }
+    ensures { result ≡ ok_with_four state owner since at }
 {
-    Reply::told_four(state, owner, u64::from(since), u64::from(at))
+    Reply::ok_with_four(state, owner, u64::from(since), u64::from(at))
 }
 
 /// Whether a core in this mode acts for the owner.

@@ -8,11 +8,11 @@ ghost use Rattle.mon_facts.specs.Tables.{AreTables};
 ghost use Rattle.lock_plan.specs.Objects.{HasObject};
 ghost use Rattle.lock_plan.specs.Records.{nothing_held, records_of, with_record, HasRoom};
 
-use crate::board::Board;
+use crate::state::MonitorState;
 use lock_plan::{Held, add_tried, next};
 use mon_types::{Call, Mode, ObjectId, Tried};
 
-impl Board {
+impl MonitorState {
     /// Adds the record of an object behind those of its kind.
     fn take(&self, object: ObjectId, held: &mut Held)
         requires tables { AreTables self.now }

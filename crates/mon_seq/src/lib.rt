@@ -3,11 +3,11 @@
 #![tactic(auto)]
 
 mod begun;
-mod board;
 mod gather;
-mod loads;
+mod loaded_items;
 mod monitor;
 mod put_back;
+mod state;
 mod step;
 mod tables;
 #[cfg(test)]

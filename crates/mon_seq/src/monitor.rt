@@ -11,7 +11,7 @@ ghost use Rattle.mon_facts.specs.Tables.{AreTables, AreDated};
 ghost use Rattle.mon_facts.specs.Facts.{SetsAreOwned, OwnersAreThere, BlockedAreOlder, EmptyAreBlank, InitializedAreRooted, ThreadsAreCounted, InsideAreRunning, RunningAreInside, InsideAreAlone, RunningAreInitialized, LoadedArePlaced, FactsHold};
 
 use crate::begun::Begun;
-use crate::board::Board;
+use crate::state::MonitorState;
 use crate::tables::Tables;
 use mon_types::{Call, Config, Enclave, Items, Mode, Region, Reply, Thread, Tried};
 use std::alloc::{AllocError, Global};
@@ -21,7 +21,7 @@ use std::marker::Model;
 /// where it is begun, so that no call makes room for the records that it holds.
 #[derive(Debug, Drop)]
 pub struct Monitor {
-    board: Board,
+    state: MonitorState,
     ticket: u32,
     begun: Begun,
 }
@@ -33,9 +33,9 @@ impl Model for Monitor {
 
     ghost Value = { Sequential };
 
-    ghost view = { λ m. record { state = m.board; ticket = m.ticket } };
+    ghost view = { λ m. record { state = m.state; ticket = m.ticket } };
 
-    ghost invariant = { λ m. AreTables m.board × AreDated m.ticket m.board × FactsHold m.board };
+    ghost invariant = { λ m. AreTables m.state × AreDated m.ticket m.state × FactsHold m.state };
 }
 
 impl Monitor {
@@ -46,7 +46,7 @@ impl Monitor {
         ensures { IfOk result (λ m. m ≡ record { state = start config; ticket = 0 }) }
     {
         Ok(Monitor {
-            board: Board::new(alloc, config)?,
+            state: MonitorState::new(alloc, config)?,
             ticket: 0,
             begun: Begun::new(),
         })
@@ -65,9 +65,9 @@ impl Monitor {
     {
         let ticket = self.ticket + 1;
         self.ticket = ticket;
-        self.board.begin(core, call, &mut self.begun);
+        self.state.begin(core, call, &mut self.begun);
         let reply = self.begun.reply;
-        self.board
+        self.state
             .finish(core, call, digest, ticket, &mut self.begun);
         reply
     }
@@ -80,7 +80,7 @@ impl Monitor {
         ensures begun { begun.new ≡ begun_in self.now.state core call.now }
         ensures never_concurrent { is_concurrent begun.new.reply ≡ false }
     {
-        self.board.begin(core, call, begun);
+        self.state.begin(core, call, begun);
     }
 
     /// Finishes a call that was begun in the present state, at the next ticket. `digest` is that of the page
@@ -95,7 +95,7 @@ impl Monitor {
     {
         let ticket = self.ticket + 1;
         self.ticket = ticket;
-        self.board.finish(core, call, digest, ticket, begun);
+        self.state.finish(core, call, digest, ticket, begun);
     }
 
     /// The objects that such a call would try in the present state; none where it would be refused
@@ -105,7 +105,7 @@ impl Monitor {
         ensures { result ≡ tried_set (tries self.now.state core call.now) }
     {
         let mut begun = Begun::new();
-        self.board.begin(core, call, &mut begun);
+        self.state.begin(core, call, &mut begun);
         begun.tried
     }
 
@@ -122,7 +122,7 @@ impl Monitor {
         ensures list { result.now ≡ self.now.state.regions }
         ensures count { length result.now ≡ self.now.state.shape.regions }
     {
-        &self.board.regions
+        &self.state.regions
     }
 
     /// Each enclave slot, by its number.
@@ -130,7 +130,7 @@ impl Monitor {
         ensures list { result.now ≡ self.now.state.enclaves }
         ensures count { length result.now ≡ 8 }
     {
-        &self.board.enclaves
+        &self.state.enclaves
     }
 
     /// Each thread slot, by its number.
@@ -138,7 +138,7 @@ impl Monitor {
         ensures list { result.now ≡ self.now.state.threads }
         ensures count { length result.now ≡ 16 }
     {
-        &self.board.threads
+        &self.state.threads
     }
 
     /// The ticket of each core's last flush.
@@ -146,7 +146,7 @@ impl Monitor {
         ensures list { result.now ≡ self.now.state.flushed }
         ensures count { length result.now ≡ self.now.state.shape.cores }
     {
-        &self.board.flushed
+        &self.state.flushed
     }
 
     /// For whom each core runs.
@@ -154,7 +154,7 @@ impl Monitor {
         ensures list { result.now ≡ self.now.state.modes }
         ensures count { length result.now ≡ self.now.state.shape.cores }
     {
-        &self.board.modes
+        &self.state.modes
     }
 
     /// What the monitor keeps, whatever calls were made. It does nothing: who calls it may cite these
@@ -173,7 +173,7 @@ impl Monitor {
         ensures placed { LoadedArePlaced self.now.state }
     {
         // A look at a field is what lets a proof know what holds of each value of this type.
-        let _ = &self.board;
+        let _ = &self.state;
     }
 
     /// The tables. Takes no memory.
@@ -187,7 +187,7 @@ impl Monitor {
         ensures dated { AreDated self.ticket self.state }
         ensures facts { FactsHold self.state }
     {
-        let Board {
+        let MonitorState {
             config: _,
             regions,
             enclaves,
@@ -195,7 +195,7 @@ impl Monitor {
             flushed,
             modes,
             loaded: _,
-        } = self.board;
+        } = self.state;
         Tables {
             regions: Items::from_vec(regions),
             enclaves: Items::from_vec(enclaves),

@@ -8,7 +8,7 @@ ghost use Rattle.mon_model.specs.Loading.{table_kind};
 ghost use Rattle.mon_model.specs.OnCore.{mode_by};
 ghost use Rattle.mon_seq.specs.Put.{put_all, with_held, loaded_after, HasRoomFor};
 
-use crate::board::Board;
+use crate::state::MonitorState;
 use lock_plan::Held;
 use mon_types::{Call, Loaded, LoadedKind, Mode};
 
@@ -50,7 +50,7 @@ fn mode_by(call: &Call, mode: Mode) -> Mode
     }
 }
 
-impl Board {
+impl MonitorState {
     /// Puts each record that is held where it stands in its table.
     pub fn put_back(&mut self, held: &Held)
         ensures { self.new ≡ with_held self.old held.now }
@@ -62,7 +62,7 @@ impl Board {
     }
 }
 
-impl Board {
+impl MonitorState {
     /// One more item of the enclave in slot e.
     fn load(&mut self, e: u64, item: Loaded)
         requires e { e < length self.old.loaded }

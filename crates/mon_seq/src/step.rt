@@ -13,14 +13,14 @@ ghost use Rattle.mon_calls.specs.Decided.{ArePathWords};
 ghost use Rattle.mon_seq.specs.Begun.{begun_in};
 
 use crate::begun::{Begun, nothing_tried};
-use crate::board::Board;
+use crate::state::MonitorState;
 use crate::words::{words_of_leaf, words_of_table};
 use arrayvec::ArrayVec;
 use lock_plan::{Held, refuse_early};
 use mon_calls::{apply, decide};
 use mon_types::{Call, Mode};
 
-impl Board {
+impl MonitorState {
     /// For whom a core runs.
     fn mode(&self, core: u8) -> Mode
         requires { core < length self.now.modes }

@@ -1,7 +1,7 @@
 //! What the calls on threads answer once their objects are held.
 
 ghost use Rattle.std.specs.Prelude.{◌≡◌};
-ghost use Rattle.mon_types.specs.Replies.{done, told};
+ghost use Rattle.mon_types.specs.Replies.{done, ok_with_word};
 ghost use Rattle.mon_model.specs.ThreadCalls.{is_ready_in, load_thread_reply, delete_thread_reply, enter_reply, restore_reply};
 
 use mon_types::{Enclave, Reply, Stage, Thread, ThreadState};
@@ -72,6 +72,6 @@ pub fn decide_restore(thread: &Thread) -> Reply
     if thread.saved_at == 0 {
         Reply::InvalidState
     } else {
-        Reply::told(u64::from(thread.saved_at))
+        Reply::ok_with_word(u64::from(thread.saved_at))
     }
 }

@@ -2,17 +2,19 @@
 -- project's own.
 use Rattle.std.specs.Prelude.{ℕ}
 
--- the events and the answers of one core
+-- the events that one core may log
 abbrev pub event_budget : ℕ
 event_budget = 16384
 
+-- the answers that it may be given
 abbrev pub answer_budget : ℕ
 answer_budget = 1048576
 
--- how many of each must be left before a line or a turn
+-- the events that must be left before a line or a turn
 abbrev pub line_events : ℕ
 line_events = 80
 
+-- the answers that must be left then
 abbrev pub line_answers : ℕ
 line_answers = 600
 

@@ -13,3 +13,4 @@ pub mod Bits
 pub mod Replies
 pub mod Modes
 pub mod Budgets
+pub mod Sizes

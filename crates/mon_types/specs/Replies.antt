@@ -11,15 +11,17 @@ done = replies.Ok 0 (0 ∷ 0 ∷ 0 ∷ 0 ∷ 0 ∷ 0 ∷ 0 ∷ 0 ∷ [])
 abbrev pub done_if : Bool → Reply
 done_if may = if may then done else replies.InvalidState
 
--- Ok with one word, with four, and with four and four
-abbrev pub told : ℕ → Reply
-told a = replies.Ok 1 (a ∷ 0 ∷ 0 ∷ 0 ∷ 0 ∷ 0 ∷ 0 ∷ 0 ∷ [])
+-- Ok with one word
+abbrev pub ok_with_word : ℕ → Reply
+ok_with_word a = replies.Ok 1 (a ∷ 0 ∷ 0 ∷ 0 ∷ 0 ∷ 0 ∷ 0 ∷ 0 ∷ [])
 
-abbrev pub told_four : ℕ → ℕ → ℕ → ℕ → Reply
-told_four a b c d = replies.Ok 4 (a ∷ b ∷ c ∷ d ∷ 0 ∷ 0 ∷ 0 ∷ 0 ∷ [])
+-- Ok with four words
+abbrev pub ok_with_four : ℕ → ℕ → ℕ → ℕ → Reply
+ok_with_four a b c d = replies.Ok 4 (a ∷ b ∷ c ∷ d ∷ 0 ∷ 0 ∷ 0 ∷ 0 ∷ [])
 
-abbrev pub told_eight : List ℕ → Reply
-told_eight words = replies.Ok 8 words
+-- Ok with eight words
+abbrev pub ok_with_eight : List ℕ → Reply
+ok_with_eight words = replies.Ok 8 words
 
 -- whether the call was carried out
 abbrev pub is_done : Reply → Bool

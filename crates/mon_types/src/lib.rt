@@ -40,8 +40,8 @@ pub use region::{OS_WORD, Owner, Region, pack_at, pack_own, unpack_own};
 pub use reply::Reply;
 pub use script::{Line, Script, StepItem};
 pub use sizes::{
-    ANSWER_BUDGET, EVENT_BUDGET, LINE_ANSWERS, LINE_EVENTS, MOST_CORES, MOST_PAGES, MOST_REGIONS,
-    PAGE_BYTES, PAGE_WORDS, SLOTS, THREADS, TICK_CAUSE,
+    ADDRESS_END, ANSWER_BUDGET, EVENT_BUDGET, LINE_ANSWERS, LINE_EVENTS, MOST_CORES, MOST_PAGES,
+    MOST_REGIONS, PAGE_BYTES, PAGE_WORDS, SLOTS, THREADS, TICK_CAUSE,
 };
 pub use thread::{Mode, Thread, ThreadState};
 pub use thread_row::{thread_of, thread_words};

@@ -1,7 +1,7 @@
 //! What a monitor call answers.
 
 ghost use Rattle.std.specs.Prelude.{◌≡◌};
-ghost use Rattle.mon_types.specs.Replies.{done, done_if, told, told_four, told_eight, is_done};
+ghost use Rattle.mon_types.specs.Replies.{done, done_if, ok_with_word, ok_with_four, ok_with_eight, is_done};
 
 use crate::object::ObjectId;
 
@@ -54,8 +54,8 @@ impl Reply {
     }
 
     /// Ok with one word.
-    pub fn told(word: u64) -> Reply
-        ensures { result ≡ told word }
+    pub fn ok_with_word(word: u64) -> Reply
+        ensures { result ≡ ok_with_word word }
     {
         Reply::Ok {
             count: 1,
@@ -64,8 +64,8 @@ impl Reply {
     }
 
     /// Ok with four words.
-    pub fn told_four(a: u64, b: u64, c: u64, d: u64) -> Reply
-        ensures { result ≡ told_four a b c d }
+    pub fn ok_with_four(a: u64, b: u64, c: u64, d: u64) -> Reply
+        ensures { result ≡ ok_with_four a b c d }
     {
         Reply::Ok {
             count: 4,
@@ -74,8 +74,8 @@ impl Reply {
     }
 
     /// Ok with eight words.
-    pub fn told_eight(words: [u64; 8]) -> Reply
-        ensures { result ≡ told_eight words }
+    pub fn ok_with_eight(words: [u64; 8]) -> Reply
+        ensures { result ≡ ok_with_eight words }
     {
         Reply::Ok { count: 8, words }
     }

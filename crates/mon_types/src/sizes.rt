@@ -21,6 +21,9 @@ pub const MOST_REGIONS: usize = 64;
 /// How many pages DRAM has at the most.
 pub const MOST_PAGES: usize = 1024;
 
+/// The first address past those that an enclave may have.
+pub const ADDRESS_END: u64 = 1 << 38;
+
 /// How many events a core may log.
 pub const EVENT_BUDGET: u32 = 16384;
 

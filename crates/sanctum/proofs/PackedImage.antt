@@ -6,7 +6,8 @@ use Rattle.std.proofs.lemmas.List.{length-replicate}
 use Rattle.mon_types.specs.Shape.{Shape, is_shape, is_core_count, is_region_count, is_page_count, is_shift, page_total}
 use Rattle.mon_types.specs.declared.image.Segment.{Segment}
 use Rattle.mon_types.specs.declared.image.Start.{Start}
-use Rattle.dram_map.specs.Addresses.{page_bytes, dram_start}
+use Rattle.mon_types.specs.Sizes.{page_bytes}
+use Rattle.dram_map.specs.Addresses.{dram_start}
 use Rattle.image_read.specs.Image.{most_cores, AreSegments, IsImage}
 use Rattle.sanctum.specs.Packing.{word_limit, paired, packed_start, packed_segments, packed_image, version_for}
 use Rattle.sanctum.proofs.Pairs.{half_as_many, some_paired}

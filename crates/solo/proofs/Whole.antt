@@ -11,7 +11,7 @@ use Rattle.hist.specs.History.{entries_of, history, after_entries, last_state}
 use Rattle.hist.specs.Legal.{AreTickets, AreLegalEntries, Legal, HasLastTables}
 use Rattle.hist.proofs.Growing.{history_of_one, own_of_one}
 use Rattle.report.specs.Report.{HasAllCores}
-use Rattle.solo.specs.Solo.{Core, core_start, core_from, finished_by, solo_run}
+use Rattle.solo.specs.Solo.{Core, core_start, core_from, finished_run, solo_run}
 use Rattle.solo.proofs.Runs.{HasHistory, has_history}
 
 -- ---- the whole run
@@ -33,7 +33,7 @@ legal_log c h single =
       entries = subst (AreLegalEntries (start c.state.shape)) (sym one) h.legal;
     }
 
-last_tables : (c : Core) → HasHistory c.state.shape c → HasLastTables (finished_by c)
+last_tables : (c : Core) → HasHistory c.state.shape c → HasLastTables (finished_run c)
 last_tables c h =
     let last : c.state ≡ last_state c.state.shape (c.log ∷ []) = sym (ap (after_entries (start c.state.shape)) (history_of_one c.log h.tickets) ∙ h.state) in
     record {
@@ -45,9 +45,9 @@ last_tables c h =
     }
 
 of_core : (shape : Shape) (first : Start) (script : List Line) (c : Core) → c ≡ core_from (core_start shape first) 1 script → HasHistory c.state.shape c → c.state.shape.cores ≡ 1 → AreTables c.state
-    → WholeRun shape first script (finished_by c)
+    → WholeRun shape first script (finished_run c)
 of_core shape first script c is h single sound = record {
-  run = ap finished_by is;
+  run = ap finished_run is;
   legal = legal_log c h single;
   tables = last_tables c h;
   cores = record { logs = sym single; flushed = sound.whole.flushed; modes = sound.whole.modes };
@@ -55,7 +55,7 @@ of_core shape first script c is h single sound = record {
 
 -- The run of a script, from what opening, running and finishing leave.
 pub whole_run : (shape : Shape) (first begin : Start) (script lines : List Line) (opened ran : Core) (f : Finished) → shape.cores ≡ 1 → begin ≡ first → lines ≡ script
-    → opened ≡ core_start shape begin → ran ≡ core_from opened 1 lines → f ≡ finished_by ran → AreTables ran.state → WholeRun shape first script f
+    → opened ≡ core_start shape begin → ran ≡ core_from opened 1 lines → f ≡ finished_run ran → AreTables ran.state → WholeRun shape first script f
 whole_run shape first begin script lines opened ran f single begin_is lines_is begun ran_is left sound =
     let is : ran ≡ core_from (core_start shape first) 1 script =
     ran_is ∙ ap (λ (c : Core). core_from c 1 lines) (begun ∙ ap (core_start shape) begin_is) ∙ ap (core_from (core_start shape first) 1) lines_is in

@@ -8,7 +8,8 @@ use Rattle.mon_types.specs.Budgets.{event_budget}
 
 -- The machine is the monitor's and has one core, each call spent a ticket and was logged, DRAM has its size and few
 -- pages, and there is room for as many events as the budget leaves.
-pub record IsSoundMachine (shape : Shape) (monitor : Sequential) (made : ℕ) (words : List ℕ) (log : Logged) : Type 0 where
+pub record IsSoundMachine (shape : Shape) (monitor : Sequential) (made : ℕ) (words : List ℕ)
+    (log : Logged) : Type 0 where
   pub machine : monitor.state.shape ≡ shape
   pub one : shape.cores ≡ 1
   pub tickets : monitor.ticket ≡ made

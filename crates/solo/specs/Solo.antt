@@ -193,8 +193,8 @@ core_from c n [] = c
 core_from c n (line ∷ rest) = if is_spent c then stopped_at c n else core_from (core_after c line) (n + 1) rest
 
 -- what the core leaves
-abbrev pub finished_by : Core → Finished
-finished_by c = record {
+abbrev pub finished_run : Core → Finished
+finished_run c = record {
   config = c.state.shape;
   logs = record { events = c.log; spare = event_budget - length c.log } ∷ [];
   answers = c.answers ∷ [];
@@ -208,7 +208,7 @@ finished_by c = record {
 
 -- the finished run of these lines on a machine of one core that starts so
 abbrev pub solo_run : Shape → Start → List Line → Finished
-solo_run shape first script = finished_by (core_from (core_start shape first) 1 script)
+solo_run shape first script = finished_run (core_from (core_start shape first) 1 script)
 
 -- its report
 abbrev pub solo_report : Shape → Start → List Line → List ℕ

@@ -1,6 +1,7 @@
 //! The words that loads give a core.
 
 ghost use Rattle.std.specs.Prelude.{◌≡◌, ◌+◌, ◌-◌, ◌<◌, ◌≤◌, [], ◌∷◌, ◌++◌, length, IfOk};
+ghost use Rattle.mon_types.specs.Budgets.{answer_budget};
 
 use mon_types::{ANSWER_BUDGET, Items};
 use std::alloc::{AllocError, Global};
@@ -15,12 +16,13 @@ pub struct Answers {
 
 impl Model for Answers {
     ghost use Rattle.std.specs.Prelude.{ℕ, ◌≤◌, List, vec_capacity};
+    ghost use Rattle.mon_types.specs.Budgets.{answer_budget};
 
     ghost Value = { List ℕ };
 
     ghost view = { λ a. a.words.items };
 
-    ghost invariant = { λ a. 1048576 ≤ vec_capacity a.words };
+    ghost invariant = { λ a. answer_budget ≤ vec_capacity a.words };
 }
 
 impl Answers {
@@ -42,7 +44,7 @@ impl Answers {
 
     /// Appends a word. Takes no memory.
     pub fn push(&mut self, word: u64)
-        requires { length self.old < 1048576 }
+        requires { length self.old < answer_budget }
         ensures { self.new ≡ self.old ++ word ∷ [] }
     {
         self.words.push_reserved(word);
@@ -50,7 +52,7 @@ impl Answers {
 
     /// Appends words. Takes no memory.
     pub fn extend(&mut self, words: &[u64])
-        requires { length self.old + length words.now ≤ 1048576 }
+        requires { length self.old + length words.now ≤ answer_budget }
         ensures { self.new ≡ self.old ++ words.now }
     {
         for word in words {

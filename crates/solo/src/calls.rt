@@ -8,10 +8,11 @@ ghost use Rattle.dram_map.specs.Addresses.{word_total};
 ghost use Rattle.dram_map.specs.Words.{word_at};
 ghost use Rattle.solo.specs.Ptes.{pte_put};
 ghost use Rattle.mon_types.specs.Budgets.{event_budget, answer_budget, line_events, line_answers};
+ghost use Rattle.mon_types.specs.Sizes.{page_words};
 ghost use Rattle.solo.specs.Solo.{source_words, page_input, stored, leaving_of, called};
 
 use crate::answers::Answers;
-use crate::machine::Machine;
+use crate::one_core::OneCore;
 use crate::ptes::{page_number, places_read};
 use core_context::Leaving;
 use dram_map::Memory;
@@ -73,7 +74,7 @@ fn digest_in(input: &Option<PageInput>) -> [u8; 32]
 
 /// Gives the words at these places as answers.
 fn give_ptes(answers: &mut Answers, memory: &Memory, places: &[u64])
-    requires { length answers.old + length places.now ≤ 1048576 }
+    requires { length answers.old + length places.now ≤ answer_budget }
     ensures { answers.new ≡ answers.old ++ map (word_at memory.now) places.now }
 {
     for place in places {
@@ -86,7 +87,7 @@ fn give_source(answers: &mut Answers, config: &Config, memory: &Memory, call: &C
     requires size { length memory.now ≡ word_total config.now }
     requires pages { page_total config.now < 65536 }
     requires range { IsInRange config.now call.now }
-    requires room { length answers.old + 512 ≤ 1048576 }
+    requires room { length answers.old + page_words ≤ answer_budget }
     ensures { answers.new ≡ answers.old ++ source_words memory.now call.now }
 {
     if let Call::LoadPage { src, .. } = *call {
@@ -132,7 +133,7 @@ fn store(config: &Config, memory: &mut Memory, call: &Call, places: &[u64])
     }
 }
 
-impl Machine {
+impl OneCore {
     /// Makes a call, and logs it.
     pub fn make(&mut self, call: &Call)
         requires events { length self.old.log + line_events ≤ event_budget }

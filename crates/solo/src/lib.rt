@@ -4,7 +4,7 @@
 mod answers;
 mod calls;
 mod lines;
-mod machine;
+mod one_core;
 mod ptes;
 mod run;
 #[cfg(test)]

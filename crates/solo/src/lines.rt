@@ -4,11 +4,11 @@ ghost use Rattle.std.specs.Prelude.{◌≡◌, ◌+◌, ◌≤◌, false, length
 ghost use Rattle.mon_types.specs.Budgets.{event_budget, answer_budget, line_events, line_answers};
 ghost use Rattle.solo.specs.Solo.{mode_now, tick_made, pc_set, reg_set, core_after, is_spent, stopped_at, core_from};
 
-use crate::machine::Machine;
+use crate::one_core::OneCore;
 use hist::{Event, Why};
 use mon_types::{ANSWER_BUDGET, Call, LINE_ANSWERS, LINE_EVENTS, Line, Mode, TICK_CAUSE};
 
-impl Machine {
+impl OneCore {
     /// For whom the core runs.
     fn mode(&self) -> Mode
         ensures { result ≡ mode_now self.now }

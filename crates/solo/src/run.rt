@@ -7,7 +7,7 @@ ghost use Rattle.report.specs.Report.{HasAllCores};
 ghost use Rattle.solo.specs.Solo.{solo_run};
 ghost use Rattle.solo.specs.Given.{lines_of_core_0, first_start, IsOneScript, IsBareImage};
 
-use crate::machine::Machine;
+use crate::one_core::OneCore;
 use hist::Finished;
 use mon_types::{Image, Line, Script, Start};
 use std::alloc::{AllocError, Global};
@@ -43,7 +43,7 @@ pub fn solo(alloc: Global, image: &Image, script: Script) -> Result<Finished, Al
     ensures tables { IfOk result HasLastTables }
     ensures cores { IfOk result HasAllCores }
 {
-    let mut machine = Machine::new(alloc, image.config, &start_of(image))?;
+    let mut machine = OneCore::new(alloc, image.config, &start_of(image))?;
     let logs = Vec::with_capacity(alloc, 1)?;
     let answers = Vec::with_capacity(alloc, 1)?;
     machine.run(lines_of(&script));

@@ -2,7 +2,8 @@
 -- Virtual-Memory System"; and the ptes that the monitor writes, which are this project's own.
 use Rattle.std.specs.Prelude.{ℕ, zero, suc, ◌+◌, ◌-◌, ◌*◌, ◌/◌, ◌%◌, ◌^◌, Bool, ◌==◌, ◌||◌, if◌then◌else◌, List, [], ◌∷◌, Option}
 use Rattle.mon_types.specs.Shape.{Shape}
-use Rattle.dram_map.specs.Addresses.{page_words, first_word, frame_of, is_dram_frame, page_in_frame, page_of_frame}
+use Rattle.mon_types.specs.Sizes.{page_words}
+use Rattle.dram_map.specs.Addresses.{first_word, frame_of, is_dram_frame, page_in_frame, page_of_frame}
 use Rattle.dram_map.specs.Words.{word_at}
 use Rattle.sv39_pte.specs.Pte.{ppn_of}
 

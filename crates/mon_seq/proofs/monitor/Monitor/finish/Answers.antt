@@ -11,7 +11,7 @@ use Rattle.mon_seq.proofs.monitor.Monitor.finish.Goals as goal
 pub invariant_of-self : goal.invariant_of-self
 invariant_of-self c =
     let k = c.self.inside.ticket in
-    let s = c.self.inside.board in
+    let s = c.self.inside.state in
     let there = subst (λ (m : Sequential). c.args.core < m.state.shape.cores) (sym c.self.view_is) c.requires.core in
     let is = sym c.finish.ensures in (
       subst AreTables is (after_tables s c.args.core c.args.call.now c.args.digest.now (k + 1) there c.self.invariant.0),

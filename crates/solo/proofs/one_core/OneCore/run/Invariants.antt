@@ -1,7 +1,7 @@
 use Rattle.std.proofs.Common.{◌≡◌, ◌+◌, ◌≤◌, drop, length}
 use Rattle.mon_types.specs.Budgets.{event_budget, line_events}
 use Rattle.solo.specs.Solo.{core_from}
-use Rattle.solo.proofs.machine.Machine.run.Given as goal
+use Rattle.solo.proofs.one_core.OneCore.run.Given as goal
 
 abbrev pub invariant-loop-i : goal.invariant-loop-i
 invariant-loop-i l = record {

@@ -2,7 +2,7 @@ use Rattle.std.proofs.Common.{◌+◌, drop, sym, ap, ◌∙◌}
 use Rattle.mon_types.specs.declared.script.Line.TheVariants as lines
 use Rattle.solo.specs.Solo.{Core, core_from}
 use Rattle.solo.proofs.Loop.{stops, goes_on, ends, room_kept}
-use Rattle.solo.proofs.machine.Machine.run.Goals as goal
+use Rattle.solo.proofs.one_core.OneCore.run.Goals as goal
 
 pub returns-then-is_spent : goal.returns-then-is_spent
 returns-then-is_spent c =

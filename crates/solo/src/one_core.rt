@@ -2,7 +2,7 @@
 
 ghost use Rattle.std.specs.Prelude.{◌≡◌, ◌<◌, [], vec_len, vec_capacity, IfOk};
 ghost use Rattle.mon_facts.specs.Tables.{AreTables};
-ghost use Rattle.solo.specs.Solo.{core_start, finished_by};
+ghost use Rattle.solo.specs.Solo.{core_start, finished_run};
 
 use crate::answers::Answers;
 use core_context::Contexts;
@@ -17,7 +17,7 @@ use std::marker::Model;
 /// those of the OS, which are kept while the core is inside an enclave; DRAM; what loads gave the core,
 /// and its log; and where calls are begun.
 #[derive(Debug, Drop)]
-pub struct Machine {
+pub struct OneCore {
     pub config: Config,
     pub monitor: Monitor,
     pub made: u32,
@@ -28,7 +28,7 @@ pub struct Machine {
     pub begun: Begun,
 }
 
-impl Model for Machine {
+impl Model for OneCore {
     ghost use Rattle.solo.specs.Solo.{Core};
     ghost use Rattle.solo.specs.Kept.{IsSoundMachine};
 
@@ -39,9 +39,9 @@ impl Model for Machine {
     ghost invariant = { λ m. IsSoundMachine m.config m.monitor m.made m.memory m.log };
 }
 
-impl Machine {
+impl OneCore {
     /// The machine at its start, where DRAM holds zeros. Takes all the memory that its lines will need.
-    pub fn new(alloc: Global, config: Config, start: &Start) -> Result<Machine, AllocError>
+    pub fn new(alloc: Global, config: Config, start: &Start) -> Result<OneCore, AllocError>
         requires one { config.cores ≡ 1 }
         ensures { IfOk result (λ m. m ≡ core_start config start.now) }
     {
@@ -49,7 +49,7 @@ impl Machine {
         let memory = Memory::new(alloc, &config)?;
         let answers = Answers::new(alloc)?;
         let log = Log::new(alloc, EVENT_BUDGET)?;
-        Ok(Machine {
+        Ok(OneCore {
             config,
             monitor,
             made: 0,
@@ -68,7 +68,7 @@ impl Machine {
         requires log_room { vec_len logs < vec_capacity logs }
         requires no_answers { answers.items ≡ [] }
         requires answer_room { vec_len answers < vec_capacity answers }
-        ensures left { result ≡ finished_by self }
+        ensures left { result ≡ finished_run self }
         ensures sound { AreTables self.state }
     {
         logs.push_reserved(self.log);

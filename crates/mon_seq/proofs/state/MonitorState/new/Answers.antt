@@ -2,7 +2,7 @@ use Rattle.std.proofs.Common.{◌≡◌, sym, subst, rules}
 use Rattle.mon_model.specs.State.{State, start}
 use Rattle.mon_facts.specs.Tables.{AreTables}
 use Rattle.mon_facts.proofs.TablesKept.{start_sound}
-use Rattle.mon_seq.proofs.board.Board.new.Goals as goal
+use Rattle.mon_seq.proofs.state.MonitorState.new.Goals as goal
 
 pub returns-clause-tables : goal.returns-clause-tables
 returns-clause-tables c =

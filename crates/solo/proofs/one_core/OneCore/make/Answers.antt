@@ -18,7 +18,7 @@ use Rattle.solo.specs.Solo.{Core, source_words, page_input, stored, called}
 use Rattle.solo.proofs.Done.{done_in_range}
 use Rattle.solo.proofs.Made.{made_so}
 use Rattle.solo.proofs.Places.{places_are}
-use Rattle.solo.proofs.machine.Machine.make.Goals as goal
+use Rattle.solo.proofs.one_core.OneCore.make.Goals as goal
 
 pub input_of-input-requires-clause-range : goal.input_of-input-requires-clause-range
 input_of-input-requires-clause-range c = λ is_ok.

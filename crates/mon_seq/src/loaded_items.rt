@@ -2,21 +2,18 @@
 
 ghost use Rattle.std.specs.Prelude.{◌≡◌, ◌<◌, [], ◌∷◌, ◌++◌, length, IfOk};
 
-use mon_types::Loaded;
+use mon_types::{Loaded, MOST_PAGES};
 use std::alloc::{AllocError, Global};
 use std::marker::Model;
 
-/// The most items of an enclave: one for each page of the largest machine.
-const MOST_ITEMS: usize = 1024;
-
-/// The items that were loaded into an enclave slot, with room for as many as there can ever be, taken
-/// when the list was made. Contracts see the list of the items.
+/// The items that were loaded into an enclave slot, with room for as many as there can ever be, one for
+/// each page of the largest machine, taken when the list was made. Contracts see the list of the items.
 #[derive(Debug, Drop)]
-pub struct Loads {
+pub struct LoadedItems {
     items: Vec<Loaded>,
 }
 
-impl Model for Loads {
+impl Model for LoadedItems {
     ghost use Rattle.std.specs.Prelude.{◌≤◌, List, vec_capacity};
     ghost use Rattle.mon_types.specs.declared.enclave.Loaded.{Loaded};
 
@@ -27,13 +24,13 @@ impl Model for Loads {
     ghost invariant = { λ l. 1024 ≤ vec_capacity l.items };
 }
 
-impl Loads {
+impl LoadedItems {
     /// No items.
-    pub fn new(alloc: Global) -> Result<Loads, AllocError>
+    pub fn new(alloc: Global) -> Result<LoadedItems, AllocError>
         ensures { IfOk result (λ l. l ≡ []) }
     {
-        Ok(Loads {
-            items: Vec::with_capacity(alloc, MOST_ITEMS)?,
+        Ok(LoadedItems {
+            items: Vec::with_capacity(alloc, MOST_PAGES)?,
         })
     }
 

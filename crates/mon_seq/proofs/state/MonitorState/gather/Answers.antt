@@ -4,7 +4,7 @@ use Rattle.mon_model.specs.Tries.{tries}
 use Rattle.lock_plan.specs.declared.held.Held.{Held}
 use Rattle.lock_plan.specs.Plan.{held_count}
 use Rattle.mon_seq.proofs.Gathered.{OneMore, AllGathered, one_more_gathered, all_gathered}
-use Rattle.mon_seq.proofs.board.Board.gather.Goals as goal
+use Rattle.mon_seq.proofs.state.MonitorState.gather.Goals as goal
 
 pub add_tried-requires : goal.add_tried-requires
 add_tried-requires c =

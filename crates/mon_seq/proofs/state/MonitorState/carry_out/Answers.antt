@@ -12,7 +12,7 @@ use Rattle.lock_plan.specs.Records.{records_of}
 use Rattle.mon_seq.specs.Put.{with_held, loaded_after, HasRoomFor}
 use Rattle.mon_seq.proofs.Gathered.{caller}
 use Rattle.mon_seq.proofs.Put.{item_room, room_held, put_all_back}
-use Rattle.mon_seq.proofs.board.Board.carry_out.Goals as goal
+use Rattle.mon_seq.proofs.state.MonitorState.carry_out.Goals as goal
 
 pub change_items-requires-clause-arguments : goal.change_items-requires-clause-arguments
 change_items-requires-clause-arguments c =

@@ -2,7 +2,7 @@ use Rattle.std.proofs.Common.{◌-◌, length}
 use Rattle.mon_model.specs.Tries.{tries}
 use Rattle.lock_plan.specs.Plan.{held_count}
 use Rattle.mon_seq.proofs.Gathered.{IsGathered}
-use Rattle.mon_seq.proofs.board.Board.gather.Given as goal
+use Rattle.mon_seq.proofs.state.MonitorState.gather.Given as goal
 
 abbrev pub invariant-loop-object : goal.invariant-loop-object
 invariant-loop-object l = IsGathered l.self l.core l.call l.tried l.held
