@@ -47,16 +47,16 @@ is_leaf kinds.Table0 = false
 is_leaf kinds.Page = true
 is_leaf kinds.Reserved = true
 
--- An entry on an address's path is not 0 exactly where its child is there: the root's entry where a
--- table of level 1 is, that table's where a table of level 0 is, and that one's where a leaf is.
+-- A page-table entry (pte) on an address's path is not 0 exactly where its child is there: the root's where a table of
+-- level 1 is, that table's where a table of level 0 is, and that one's where a leaf is.
 abbrev pub has_table_1 : ℕ → List Loaded → Bool
 has_table_1 va items = list_any (λ item. is_table_1 item.kind && is_there_for va item) items
 
--- the entry below it, in the table of level 1
+-- the pte below it, in the table of level 1
 abbrev pub has_table_0 : ℕ → List Loaded → Bool
 has_table_0 va items = list_any (λ item. is_table_0 item.kind && is_there_for va item) items
 
--- the entry below that, in the table of level 0
+-- the pte below that, in the table of level 0
 abbrev pub has_leaf : ℕ → List Loaded → Bool
 has_leaf va items = list_any (λ item. is_leaf item.kind && is_there_for va item) items
 
