@@ -15,9 +15,9 @@ ReadsAt None at result into = ⊤
 ReadsAt (Some bytes) at result into = IfOk result (λ n. IsPieceOf bytes at n into)
 
 -- a list of bytes is how the file begins, where the file is told
-abbrev pub IsFront : Option (List ℕ) → List ℕ → Type 0
-IsFront None front = ⊤
-IsFront (Some bytes) front = front ≡ take (length front) bytes
+abbrev pub IsPrefix : Option (List ℕ) → List ℕ → Type 0
+IsPrefix None prefix = ⊤
+IsPrefix (Some bytes) prefix = prefix ≡ take (length prefix) bytes
 
 -- a list of bytes is the whole file, cut off after `limit` bytes, where the file is told
 abbrev pub IsFile : Option (List ℕ) → ℕ → List ℕ → Type 0

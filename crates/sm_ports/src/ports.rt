@@ -34,7 +34,7 @@ pub trait Sink {
     /// How many faults the sink has counted.
     ghost faults: { Self → ℕ };
 
-    /// Takes bytes from the front of `bytes`, and answers how many: at least one, unless `bytes` is
+    /// Takes bytes from the start of `bytes`, and answers how many: at least one, unless `bytes` is
     /// empty. `Failed` takes nothing, and comes only where the count of faults rose in this call.
     fn put(&mut self, bytes: &[u8]) -> Result<usize, Failed>
         ensures bound { IfOk result (λ n. n ≤ length bytes.now) }

@@ -3,7 +3,7 @@
 ghost use Rattle.std.specs.Prelude.{◌≡◌, ◌≤◌, ◌<◌, ◌+◌, ℕ, List, Err, IfOk, OnOk, OnErr, vec_len};
 ghost use Rattle.std.specs.Io.KnownBytes.{Appends};
 ghost use Rattle.sm_ports.specs.Causes.{Rose, HasCause};
-ghost use Rattle.sm_ports.specs.Contents.{IsFront, IsFile, AppendsPart};
+ghost use Rattle.sm_ports.specs.Contents.{IsPrefix, IsFile, AppendsPart};
 ghost use Rattle.sm_ports.specs.declared.failed.ReadError.TheVariants as errors;
 
 use crate::failed::{Failed, ReadError};
@@ -23,9 +23,9 @@ fn read_piece<D: Depot>(
     requires { vec_len bytes.old < limit }
     ensures grows { IfOk result (λ n. vec_len bytes.new ≡ vec_len bytes.old + n) }
     ensures within { OnOk result (vec_len bytes.new ≤ limit) }
-    ensures front { OnOk result (IsFront (D.contents depot.old name.now) bytes.old.items →
-        IsFront (D.contents depot.old name.now) bytes.new.items) }
-    ensures end { IfOk result (λ n. n ≡ 0 → IsFront (D.contents depot.old name.now) bytes.old.items →
+    ensures prefix { OnOk result (IsPrefix (D.contents depot.old name.now) bytes.old.items →
+        IsPrefix (D.contents depot.old name.now) bytes.new.items) }
+    ensures end { IfOk result (λ n. n ≡ 0 → IsPrefix (D.contents depot.old name.now) bytes.old.items →
         IsFile (D.contents depot.old name.now) limit bytes.new.items) }
     ensures contents { D.contents depot.new ≡ D.contents depot.old }
     ensures cause { result ≡ Err errors.Failed →
@@ -66,7 +66,7 @@ pub fn read_file<D: Depot>(
 }
 
 /// Puts all the bytes, each time again from where the sink cut them. Where the sink fails, it has taken
-/// a proper front of them.
+/// a proper prefix of them.
 pub fn put_all<K: Sink>(out: &mut K, bytes: &[u8]) -> Result<(), Failed>
     ensures ok { OnOk result (Appends (K.taken out.old) (K.taken out.new) bytes.now) }
     ensures err { OnErr result (AppendsPart (K.taken out.old) (K.taken out.new) bytes.now) }
