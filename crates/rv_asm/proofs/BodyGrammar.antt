@@ -6,9 +6,12 @@ use Rattle.std.specs.Char.{is_ascii}
 use Rattle.std.proofs.lemmas.Bool.{cases_Bool, and_parts, and_from, and_right, not-true, eqb-true, eq-eqb, cond-true, cond-false, false≢true}
 use Rattle.std.proofs.lemmas.Bool.Decides.{nat_tests}
 use Rattle.rv_asm.specs.Names.{named}
-use Rattle.rv_asm.specs.Text.{is_number_sign, is_no_sign, is_blank, is_solid, is_colon, is_first, is_label_byte, ends_label, begins, ends, from_first, trimmed, body_of, begins_label, is_label, begins_colon, label_bytes, behind_label_bytes, has_label, label_of, statement_text}
-use Rattle.rv_asm.specs.Grammar.{Label, IsLabel, AreBehind, IsStatementText, IsBody, IsComment, IsLine}
-use Rattle.rv_asm.proofs.Cuts.{all_from, all_both, all_append, none_other, all_other, cut_here, cut_later, cut_is, cut_joins, cut_found, trimmed_is, is_trimmed, ends_behind}
+use Rattle.text_in.specs.Bytes.{is_number_sign, is_no_sign, is_blank, is_solid, is_name_start, is_name_byte, ends_name, begins, ends}
+use Rattle.rv_asm.specs.Text.{is_colon, body_of, begins_label, is_label, begins_colon, label_bytes, behind_label_bytes, has_label, label_of, statement_text}
+use Rattle.text_in.specs.Cuts.{from_first, trimmed}
+use Rattle.rv_asm.specs.Grammar.{Label, IsLabel, AreBehind, IsStatementText, IsBody, IsLine}
+use Rattle.text_in.specs.Lines.{IsComment}
+use Rattle.text_in.proofs.Cuts.{all_from, all_both, all_append, none_other, all_other, cut_here, cut_later, cut_is, cut_joins, cut_found, trimmed_is, is_trimmed, ends_behind}
 use Rattle.rv_asm.proofs.NameBytes.{is_plain, is_plain_word, statement_is_plain, plain_all}
 
 -- ---- bytes
@@ -16,13 +19,13 @@ use Rattle.rv_asm.proofs.NameBytes.{is_plain, is_plain_word, statement_is_plain,
 blank_no_colon : (b : ℕ) → is_blank b ≡ true → is_colon b ≡ false
 blank_no_colon b h = grind (arith, nat_tests)
 
-blank_no_label : (b : ℕ) → is_blank b ≡ true → ends_label b ≡ true
+blank_no_label : (b : ℕ) → is_blank b ≡ true → ends_name b ≡ true
 blank_no_label b h = grind (arith, nat_tests)
 
 blank_no_sign : (b : ℕ) → is_blank b ≡ true → is_no_sign b ≡ true
 blank_no_sign b h = grind (arith, nat_tests)
 
-first_solid : (b : ℕ) → is_first b ≡ true → is_solid b ≡ true
+first_solid : (b : ℕ) → is_name_start b ≡ true → is_solid b ≡ true
 first_solid b h = grind (arith, nat_tests)
 
 -- ---- a text without a label
@@ -38,15 +41,15 @@ behind_begins text operands (inr h) = ap (begins is_blank) h.5 ∙ blanks_begin 
 
 no_colon_first : (rest : List ℕ) → begins is_blank rest ≡ true → begins_colon (behind_label_bytes rest) ≡ false
 no_colon_first [] h = refl
-no_colon_first (b ∷ bs) h = ap begins_colon (cut_here ends_label b bs (blank_no_label b h)).1 ∙ blank_no_colon b h
+no_colon_first (b ∷ bs) h = ap begins_colon (cut_here ends_name b bs (blank_no_label b h)).1 ∙ blank_no_colon b h
 
 no_colon : (word rest : List ℕ) → list_all is_plain word ≡ true → begins is_blank rest ≡ true → begins_colon (behind_label_bytes (word ++ rest)) ≡ false
 no_colon [] rest all h = no_colon_first rest h
 no_colon (b ∷ bs) rest all h =
     let p = and_parts (is_plain b) (list_all is_plain bs) all in
-    elim (cases_Bool (ends_label b)) [
-      | inl t ↦ ap begins_colon (cut_here ends_label b (bs ++ rest) t).1 ∙ not-true (is_colon b) (and_parts (is_solid b) (not (is_colon b)) p.0).1
-      | inr f ↦ ap begins_colon (cut_later ends_label b (bs ++ rest) f).1 ∙ no_colon bs rest p.1 h
+    elim (cases_Bool (ends_name b)) [
+      | inl t ↦ ap begins_colon (cut_here ends_name b (bs ++ rest) t).1 ∙ not-true (is_colon b) (and_parts (is_solid b) (not (is_colon b)) p.0).1
+      | inr f ↦ ap begins_colon (cut_later ends_name b (bs ++ rest) f).1 ∙ no_colon bs rest p.1 h
     ]
 
 no_label : (labels : List Label) (words : ℕ) (text made : List ℕ) → IsStatementText labels words text made → has_label text ≡ false
@@ -65,15 +68,15 @@ text_begins labels words text made (inr h) = ap (begins is_solid) h.3 ∙ word_b
 
 -- ---- a text with a label
 
-label_parts : (label : List ℕ) → is_label label ≡ true → (begins_label label ≡ true) × (list_all is_label_byte label ≡ true)
-label_parts label h = and_parts (begins_label label) (list_all is_label_byte label) (and_parts (begins_label label && list_all is_label_byte label) (is_none (named label)) h).0
+label_parts : (label : List ℕ) → is_label label ≡ true → (begins_label label ≡ true) × (list_all is_name_byte label ≡ true)
+label_parts label h = and_parts (begins_label label) (list_all is_name_byte label) (and_parts (begins_label label && list_all is_name_byte label) (is_none (named label)) h).0
 
 label_begins : (label rest : List ℕ) → begins_label label ≡ true → begins is_solid (label ++ rest) ≡ true
 label_begins [] rest h = absurd (false≢true h)
 label_begins (b ∷ bs) rest h = first_solid b h
 
 label_cut : (label rest : List ℕ) → is_label label ≡ true → (label_bytes (label ++ 58 ∷ rest) ≡ label) × (behind_label_bytes (label ++ 58 ∷ rest) ≡ 58 ∷ rest)
-label_cut label rest h = cut_is ends_label label (58 ∷ rest) (none_other is_label_byte label (label_parts label h).1) refl
+label_cut label rest h = cut_is ends_name label (58 ∷ rest) (none_other is_name_byte label (label_parts label h).1) refl
 
 labelled : (label rest : List ℕ) → is_label label ≡ true → has_label (label ++ 58 ∷ rest) ≡ true
 labelled label rest h =
@@ -181,7 +184,7 @@ labelled_found labels words body made known t h =
       from_first is_solid behind,
       known (label_bytes body) p.0,
       all_other is_blank (before_first is_solid behind) (cut_found is_solid behind).0,
-      cut_joins ends_label body ∙ ap (λ (x : List ℕ). label_bytes body ++ x) (colon_next (behind_label_bytes body) p.1)
+      cut_joins ends_name body ∙ ap (λ (x : List ℕ). label_bytes body ++ x) (colon_next (behind_label_bytes body) p.1)
           ∙ ap (λ (x : List ℕ). label_bytes body ++ 58 ∷ x) (cut_joins is_solid behind),
       h,
     )
@@ -235,6 +238,6 @@ text_ends line =
     let body = body_of line in
     let ends_it = (is_trimmed is_solid (before_first is_number_sign line)).ends_it in
     elim (cases_Bool (has_label body)) [
-      | inl t ↦ ap (ends is_solid) (text_there body t) ∙ ends_from is_solid is_solid (drop 1 (behind_label_bytes body)) (ends_later is_solid (behind_label_bytes body) (ends_from is_solid ends_label body ends_it))
+      | inl t ↦ ap (ends is_solid) (text_there body t) ∙ ends_from is_solid is_solid (drop 1 (behind_label_bytes body)) (ends_later is_solid (behind_label_bytes body) (ends_from is_solid ends_name body ends_it))
       | inr f ↦ ap (ends is_solid) (text_alone body f) ∙ ends_it
     ]

@@ -1,11 +1,7 @@
 mod Apart
 mod BodyGrammar
 mod Cut
-mod Cuts
 mod Decimals
-mod Digits
-mod LineGrammar
-mod Lines
 mod LinesFound
 mod LinesRead
 mod NameBytes
@@ -15,7 +11,6 @@ mod OneLine
 mod OperandGrammar
 mod Operands
 mod PartsGrammar
-mod Places
 mod Plain
 mod Printed
 mod Ranges

@@ -11,7 +11,8 @@ use Rattle.rv_asm.specs.declared.label.Spot.{Spot}
 use Rattle.rv_asm.specs.declared.name.Name.{Name}
 use Rattle.rv_asm.specs.declared.statement.Statement.{Statement}
 use Rattle.rv_asm.specs.Names.{named}
-use Rattle.rv_asm.specs.Text.{is_solid, ends, body_of, label_of, statement_text, name_word, operands_text, operands_of}
+use Rattle.text_in.specs.Bytes.{is_solid, ends}
+use Rattle.rv_asm.specs.Text.{body_of, label_of, statement_text, name_word, operands_text, operands_of}
 use Rattle.rv_asm.specs.Statements.{Spots, statement_of}
 use Rattle.rv_asm.specs.Reading.{size_of, AreWordsOf, AreWordsOfAll, words_in, spotted, labels_from, is_double, with_room, statement_by, text_of, statement_in, line_of, size_of_line, then_lines, lines_from}
 use Rattle.rv_asm.specs.Grammar.{Label, IsStatement, IsStatementText, labelled, AreLines}

@@ -23,9 +23,10 @@ use Rattle.rv_asm.specs.declared.name.Width.TheVariants as widths
 use Rattle.rv_asm.specs.declared.name.Name.{Name}
 use Rattle.rv_asm.specs.declared.name.Name.TheVariants as names
 use Rattle.rv_asm.specs.Names.{upper_name, branch_name, load_name, store_name, imm_name, reg_name, mul_name, amo_name, width_text, order, name_text, name_of}
-use Rattle.rv_asm.specs.Text.{is_solid, is_colon}
+use Rattle.text_in.specs.Bytes.{is_solid}
+use Rattle.rv_asm.specs.Text.{is_colon}
 use Rattle.rv_asm.specs.Grammar.{Label, IsStatement}
-use Rattle.rv_asm.proofs.Cuts.{all_append}
+use Rattle.text_in.proofs.Cuts.{all_append}
 
 -- no blank and no colon
 abbrev pub is_plain : ℕ → Bool

@@ -3,9 +3,10 @@ use Rattle.std.proofs.Common.{◌≡◌, ℕ, ◌≤◌, List, [], ◌∷◌, �
 use Rattle.std.specs.Prelude.{None}
 use Rattle.std.specs.List.{list_all}
 use Rattle.std.proofs.lemmas.List.{length-append}
-use Rattle.rv_asm.specs.Text.{is_space, is_no_space}
+use Rattle.text_in.specs.Bytes.{is_space, is_no_space}
 use Rattle.rv_asm.specs.Reading.{most_bytes}
-use Rattle.rv_asm.specs.Grammar.{Label, Are, IsStatement, IsPadded, ArePadded, AreBehind, IsLine, IsText}
+use Rattle.rv_asm.specs.Grammar.{Label, IsStatement, IsPadded, ArePadded, AreBehind, IsLine, IsText}
+use Rattle.text_in.specs.Bytes.{Are}
 use Rattle.rv_asm.specs.Printing.{joined, behind}
 use Rattle.rv_asm.proofs.Plain.{is_printed, IsPlain, ArePlain, all_begins, all_ends, text_printed, word_has_no_comma, word_has_no_space, text_is_ascii, text_is_in_line, text_has_no_sign, words_begin, text_ends}
 

@@ -13,13 +13,16 @@ use Rattle.rv_asm.specs.declared.fault.AsmKind.{AsmKind}
 use Rattle.rv_asm.specs.declared.name.Name.{Name}
 use Rattle.rv_asm.specs.declared.label.Spot.{Spot}
 use Rattle.rv_asm.specs.Names.{name_text, named}
-use Rattle.rv_asm.specs.Numbers.{AreDigits, IsNumber, number_of, register_of}
-use Rattle.rv_asm.specs.Text.{is_first, is_label_byte, begins_label, is_label, is_open, from_first}
+use Rattle.text_in.specs.Numbers.{AreDigits}
+use Rattle.rv_asm.specs.Numbers.{IsNumber, number_of, register_of}
+use Rattle.text_in.specs.Bytes.{is_name_start, is_name_byte, is_open}
+use Rattle.rv_asm.specs.Text.{begins_label, is_label}
+use Rattle.text_in.specs.Cuts.{from_first}
 use Rattle.rv_asm.specs.Statements.{Spots, ◌>>=◌, or_bad, within, number_in, distance, even, target_in, ends_close, based_of, based_in, displaced_in, fill, fill_in, upper_of}
 use Rattle.rv_asm.specs.Grammar.{Label, IsLabel, StandsAt, IsTarget, IsBased, IsDisplaced, IsUpper}
 use Rattle.rv_asm.proofs.NumberGrammar.{number_read, number_is, register_read, register_is}
 use Rattle.rv_asm.proofs.NameGrammar.{name_read, name_is}
-use Rattle.rv_asm.proofs.Places.{NonePass}
+use Rattle.text_in.proofs.Places.{NonePass}
 
 -- ---- steps that may fail
 
@@ -56,22 +59,22 @@ none_named word (Some name) e h = absurd (h name (name_is word name e))
 -- a label passes the test of labels
 pub label_read : (word : List ℕ) → IsLabel word → is_label word ≡ true
 label_read word h =
-    let bytes = and_from (is_label_byte h.first) (list_all is_label_byte h.more) (or_left (is_first h.first) _ h.begins) h.goes_on in
-    let form = and_from (begins_label (h.first ∷ h.more)) (list_all is_label_byte (h.first ∷ h.more)) h.begins bytes in
-    and_from (begins_label word && list_all is_label_byte word) (is_none (named word)) (rw h.word_is form) (none_named word (named word) refl h.no_name)
+    let bytes = and_from (is_name_byte h.first) (list_all is_name_byte h.more) (or_left (is_name_start h.first) _ h.begins) h.goes_on in
+    let form = and_from (begins_label (h.first ∷ h.more)) (list_all is_name_byte (h.first ∷ h.more)) h.begins bytes in
+    and_from (begins_label word && list_all is_name_byte word) (is_none (named word)) (rw h.word_is form) (none_named word (named word) refl h.no_name)
 
 -- a word that passes the test of labels is one
 pub label_is : (word : List ℕ) → is_label word ≡ true → IsLabel word
 label_is [] h = absurd cc
 label_is (b ∷ bs) h =
-    let p = and_parts (is_first b && list_all is_label_byte (b ∷ bs)) (is_none (named (b ∷ bs))) h in
-    let q = and_parts (is_first b) (list_all is_label_byte (b ∷ bs)) p.0 in
+    let p = and_parts (is_name_start b && list_all is_name_byte (b ∷ bs)) (is_none (named (b ∷ bs))) h in
+    let q = and_parts (is_name_start b) (list_all is_name_byte (b ∷ bs)) p.0 in
     record {
       first = b;
       more = bs;
       word_is = refl;
       begins = q.0;
-      goes_on = (and_parts (is_label_byte b) (list_all is_label_byte bs) q.1).1;
+      goes_on = (and_parts (is_name_byte b) (list_all is_name_byte bs) q.1).1;
       no_name = no_name (b ∷ bs) (named (b ∷ bs)) refl p.1;
     }
 

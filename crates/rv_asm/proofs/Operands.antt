@@ -1,14 +1,16 @@
 -- Operands, which commas part.
-use Rattle.std.proofs.Common.{◌≡◌, ℕ, suc, ◌+◌, ◌-◌, ◌<◌, ◌≤◌, Bool, false, eqb, List, [], ◌∷◌, length, map, take, drop, Option, Some, Err, refl, sym, ap, ◌∙◌, arith, inl, inr}
+use Rattle.std.proofs.Common.{◌≡◌, ℕ, suc, ◌+◌, ◌-◌, ◌<◌, ◌≤◌, Bool, true, false, eqb, get_or, List, [], ◌∷◌, length, map, take, drop, Option, Some, Err, refl, sym, ap, ◌∙◌, arith, inl, inr}
 use Rattle.std.specs.List.{position_or_len, before_first, slice_split, onto_first}
-use Rattle.std.proofs.lemmas.Bool.{cases_Bool}
+use Rattle.std.proofs.lemmas.Bool.{cases_Bool, and_right, eq-eqb, ne_eqb}
 use Rattle.std.proofs.lemmas.List.{length-drop, drop-drop, take_rest}
 use Rattle.std.proofs.lemmas.List.Splits.{slice_split-cons_yes, slice_split-cons_no, slice_split_first}
 use Rattle.std.specs.Borrow.{Bor}
 use Rattle.rv_asm.specs.declared.fault.AsmKind.TheVariants as kinds
 use Rattle.rv_asm.specs.Parts.{parts_behind}
-use Rattle.rv_asm.specs.Statements.{none_of, one_of, two_of, three_of}
-use Rattle.rv_asm.specs.Text.{is_comma, is_no_space, from_first, trimmed, parts_of, operands_of}
+use Rattle.rv_asm.specs.Statements.{register_in, ends_close, based_in, none_of, one_of, two_of, three_of}
+use Rattle.text_in.specs.Bytes.{is_comma, is_no_space, is_open}
+use Rattle.text_in.specs.Cuts.{from_first, trimmed}
+use Rattle.rv_asm.specs.Text.{parts_of, operands_of}
 
 unfolded : (text : List ℕ) → parts_of text ≡ map (trimmed is_no_space) (slice_split is_comma text)
 unfolding parts_of
@@ -84,3 +86,32 @@ pub over_three : (text a b c : List ℕ) (o p q : Option (Bor (List ℕ))) (r s 
     → Err kinds.BadOperand ≡ three_of (operands_of text)
 over_three text a b c o p q r s t h i e j f k g =
     rw (some_operands text h, behind_some text a o r i e, behind_some r.now b p s j f, behind_some s.now c q t k g, (parts_some t.now).2) refl
+
+-- ---- a register between parentheses
+
+ends_close_at : (bs : List ℕ) → 0 < length bs → ends_close bs ≡ eqb (get_or bs (length bs - 1) 0) 41
+ends_close_at [] lt = absurd (omega arith)
+ends_close_at (b ∷ []) lt = refl
+ends_close_at (b ∷ c ∷ bs) lt =
+    let there : length (b ∷ c ∷ bs) - 1 ≡ suc (length (c ∷ bs) - 1) = omega arith in
+    ends_close_at (c ∷ bs) (omega arith) ∙ sym (ap (λ (n : ℕ). eqb (get_or (b ∷ c ∷ bs) n 0) 41) there)
+
+-- the last byte of a text is that of what stands behind its first
+last_behind : (b : ℕ) (bs : List ℕ) → 2 ≤ length (b ∷ bs) → ends_close bs ≡ eqb (get_or (b ∷ bs) (length (b ∷ bs) - 1) 0) 41
+last_behind b bs le =
+    let there : length (b ∷ bs) - 1 ≡ suc (length bs - 1) = omega arith in
+    ends_close_at bs (omega arith) ∙ sym (ap (λ (n : ℕ). eqb (get_or (b ∷ bs) n 0) 41) there)
+
+pub based_there : (word : List ℕ) → 2 ≤ length word → get_or word 0 0 ≡ 40 → get_or word (length word - 1) 0 ≡ 41 → register_in (take (length word - 1 - 1) (drop 1 word)) ≡ based_in word
+based_there [] le first last = absurd (omega arith)
+based_there (b ∷ bs) le first last =
+    let closes : ends_close bs ≡ true = last_behind b bs le ∙ eq-eqb _ _ last in
+    let opens : is_open b ≡ true = eq-eqb b 40 first in
+    let count : length (b ∷ bs) - 1 - 1 ≡ length bs - 1 = omega arith in
+    rw (opens, closes) (ap (λ (n : ℕ). register_in (take n bs)) count)
+
+pub no_close : (word : List ℕ) → 2 ≤ length word → (get_or word (length word - 1) 0 ≡ 41 → ⊥) → Err kinds.BadOperand ≡ based_in word
+no_close [] le last = absurd (omega arith)
+no_close (b ∷ bs) le last =
+    let closes : ends_close bs ≡ false = last_behind b bs le ∙ ne_eqb _ _ last in
+    rw (and_right (is_open b) (ends_close bs) closes) refl

@@ -4,9 +4,11 @@ use Rattle.std.specs.List.{list_all, before_first, slice_split, onto_first}
 use Rattle.std.proofs.lemmas.Bool.{cases_Bool, and_parts, and_from, eqb-true, not_from_true, not_from_false, false≢true}
 use Rattle.std.proofs.lemmas.Bool.Decides.{nat_tests}
 use Rattle.std.proofs.lemmas.List.{append-nil}
-use Rattle.rv_asm.specs.Text.{is_blank, is_solid, is_space, is_no_space, is_comma, is_no_comma, is_colon, begins, ends, from_first, trimmed, name_word, operands_text, parts_of, operands_of}
+use Rattle.text_in.specs.Bytes.{is_blank, is_solid, is_space, is_no_space, is_comma, is_no_comma, begins, ends}
+use Rattle.rv_asm.specs.Text.{is_colon, name_word, operands_text, parts_of, operands_of}
+use Rattle.text_in.specs.Cuts.{from_first, trimmed}
 use Rattle.rv_asm.specs.Grammar.{Label, IsPadded, ArePadded, AreBehind, IsStatement, IsStatementText}
-use Rattle.rv_asm.proofs.Cuts.{all_from, all_both, all_append, none_other, all_other, cut_later, cut_is, cut_joins, cut_found, trimmed_is, is_trimmed, ends_behind, one_part, more_parts}
+use Rattle.text_in.proofs.Cuts.{all_from, all_both, all_append, none_other, all_other, cut_later, cut_is, cut_joins, cut_found, trimmed_is, is_trimmed, ends_behind, one_part, more_parts}
 use Rattle.rv_asm.proofs.NameBytes.{is_plain, statement_is_plain, plain_all}
 use Rattle.rv_asm.proofs.BodyGrammar.{behind_begins}
 

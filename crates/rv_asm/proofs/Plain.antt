@@ -7,7 +7,7 @@ use Rattle.std.proofs.lemmas.Bool.{and_from, and_parts}
 use Rattle.std.proofs.lemmas.Bool.Decides.{nat_tests}
 use Rattle.std.proofs.lemmas.List.{length-append}
 use Rattle.std.proofs.lemmas.List.Folds.{list_all-append}
-use Rattle.rv_asm.specs.Text.{is_in_line, is_no_sign, is_solid, is_no_space, is_no_comma, begins, ends}
+use Rattle.text_in.specs.Bytes.{is_in_line, is_no_sign, is_solid, is_no_space, is_no_comma, begins, ends}
 use Rattle.rv_asm.specs.Printing.{joined, behind}
 
 -- ---- what a test says of all bytes

@@ -28,11 +28,12 @@ use Rattle.rv_decode.specs.Table.{IsRow, IsInst, IsImmediate, IsOperand, imm_for
 use Rattle.rv_asm.specs.declared.name.Width.{Width}
 use Rattle.rv_asm.specs.declared.name.Width.TheVariants as widths
 use Rattle.rv_asm.specs.Names.{name_text, name_of, upper_name, branch_name, load_name, store_name, imm_name, reg_name, mul_name, amo_name, width_text, order}
-use Rattle.rv_asm.specs.Text.{is_first}
+use Rattle.text_in.specs.Bytes.{is_name_start}
 use Rattle.rv_asm.specs.Reading.{most_bytes}
 use Rattle.rv_asm.specs.Grammar.{Label, IsLabel, IsTarget, IsBased, IsDisplaced, IsUpper, AreOperands, IsText}
 use Rattle.rv_asm.specs.Printing.{register_text, number_text, upper_bits, based_text, displaced_text, operand_texts, printed}
-use Rattle.rv_asm.proofs.Decimals.{IsSmall, is_decimal, decimal_is_number, signed_is_number, signed_nonempty, PassesDigits, decimal_passes, signed_passes}
+use Rattle.rv_asm.proofs.Decimals.{IsSmall, decimal_is_number, signed_is_number, signed_nonempty, signed_passes}
+use Rattle.text_in.proofs.Decimals.{is_decimal, PassesDigits, decimal_passes}
 use Rattle.rv_asm.proofs.OneLine.{text_is}
 use Rattle.rv_asm.proofs.Plain.{is_plain, IsPlain, ArePlain, all_joined, passes_inside, plain_more}
 
@@ -199,7 +200,7 @@ is_number_byte b = leb 45 b && leb b 57
 number_digits : PassesDigits is_number_byte
 number_digits digit lt = grind (arith, nat_tests)
 
-no_first : (b : ℕ) → is_number_byte b ≡ true → is_first b ≡ false
+no_first : (b : ℕ) → is_number_byte b ≡ true → is_name_start b ≡ false
 no_first b h = grind (arith, nat_tests)
 
 -- a number is no label

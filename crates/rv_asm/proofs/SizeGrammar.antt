@@ -7,7 +7,8 @@ use Rattle.rv_asm.specs.declared.label.Spot.{Spot}
 use Rattle.rv_asm.specs.declared.name.Name.TheVariants as names
 use Rattle.rv_asm.specs.Names.{name_text, name_of, named}
 use Rattle.rv_asm.specs.Numbers.{IsNumber}
-use Rattle.rv_asm.specs.Text.{is_solid, ends, body_of, statement_text, name_word, operands_text, operands_of}
+use Rattle.text_in.specs.Bytes.{is_solid, ends}
+use Rattle.rv_asm.specs.Text.{body_of, statement_text, name_word, operands_text, operands_of}
 use Rattle.rv_asm.specs.Statements.{fill_of}
 use Rattle.rv_asm.specs.Reading.{filled, size_by, words_in, spotted, labels_from}
 use Rattle.rv_asm.specs.Grammar.{Label, IsStatement, IsStatementText, IsLine, labelled, AreLines}

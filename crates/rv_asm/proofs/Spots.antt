@@ -13,7 +13,8 @@ use Rattle.rv_asm.specs.declared.name.Name.{Name}
 use Rattle.rv_asm.specs.declared.name.Name.TheVariants as names
 use Rattle.rv_asm.specs.Numbers.{number_of}
 use Rattle.rv_asm.specs.Names.{named}
-use Rattle.rv_asm.specs.Text.{lines_of, body_of, label_of, statement_text, name_word, operands_text, operands_of}
+use Rattle.text_in.specs.Lines.{lines_of}
+use Rattle.rv_asm.specs.Text.{body_of, label_of, statement_text, name_word, operands_text, operands_of}
 use Rattle.rv_asm.specs.Statements.{Spots, ◌>>=◌, or_bad, one_of, fill_in, fill}
 use Rattle.rv_asm.specs.Reading.{filled, size_by, words_in, spotted, labels_from, spot_in}
 use Rattle.rv_asm.specs.Parts.{IsKept}

@@ -6,13 +6,13 @@ use Rattle.rv_asm.specs.declared.fault.AsmError.{AsmError}
 use Rattle.rv_asm.specs.declared.fault.AsmError.TheVariants as errors
 use Rattle.rv_asm.specs.declared.fault.AsmFault.{AsmFault}
 use Rattle.rv_asm.specs.declared.statement.Statement.{Statement}
-use Rattle.rv_asm.specs.Text.{lines_of}
+use Rattle.text_in.specs.Lines.{lines_of}
 use Rattle.rv_asm.specs.Reading.{AreWordsOfAll, labels_from, spot_in, spots_of, lines_from, most_bytes, statements_of, Assembles}
 use Rattle.rv_asm.specs.Grammar.{Label, AreLines, IsText}
 use Rattle.rv_asm.specs.Parts.{viewed}
 use Rattle.rv_asm.specs.Answers.{Gives}
 use Rattle.rv_asm.proofs.Apart.{AreNew, placed, new_placed, new_entries, new_from_apart, apart_from_new, new_found, found_agrees, single_new}
-use Rattle.rv_asm.proofs.LineGrammar.{text_lines_are, text_lines_found}
+use Rattle.text_in.proofs.Lines.{text_lines_are, text_lines_found}
 use Rattle.rv_asm.proofs.LinesFound.{lines_found, lines_single, labels_rise}
 use Rattle.rv_asm.proofs.LinesRead.{AreReadWith, lines_read}
 use Rattle.rv_asm.proofs.SizeGrammar.{labels_are}
@@ -41,7 +41,7 @@ text_found limit text statements made h are few =
       few = few;
       lines = lines;
       labels = placed entries;
-      are_text_lines = text_lines_found text;
+      are_text_lines = text_lines_found text (lines_of text) refl;
       are_lines = subst (λ (own : List Label). AreLines (placed entries) 0 lines own made) same found.1;
       apart = apart_from_new (placed entries) (new_placed entries new);
     }
@@ -57,7 +57,7 @@ pub text_read : (limit : ℕ) (text made : List ℕ) → IsText limit text made 
 text_read limit text made h =
     let lines = lines_of text in
     let entries = labels_from limit 1 0 lines in
-    let are : AreLines h.labels 0 lines h.labels made = subst (λ (l : List (List ℕ)). AreLines h.labels 0 l h.labels made) (text_lines_are text h.lines h.are_text_lines) h.are_lines in
+    let are : AreLines h.labels 0 lines h.labels made = subst (λ (l : List (List ℕ)). AreLines h.labels 0 l h.labels made) (sym (text_lines_are text h.lines h.are_text_lines)) h.are_lines in
     let few : length made ≤ limit = h.few in
     let same = labels_are h.labels limit 1 0 lines h.labels made are (omega arith) in
     let new = new_entries entries (subst (λ (l : List Label). AreNew l) same (new_from_apart h.labels h.apart)) in

@@ -6,7 +6,7 @@ use Rattle.rv_asm.specs.declared.fault.AsmKind.{AsmKind}
 use Rattle.rv_asm.specs.declared.fault.AsmFault.{AsmFault}
 use Rattle.rv_asm.specs.declared.statement.Statement.{Statement}
 use Rattle.rv_asm.specs.declared.statement.Statement.TheVariants as statements
-use Rattle.rv_asm.specs.Text.{lines_of}
+use Rattle.text_in.specs.Lines.{lines_of}
 use Rattle.rv_asm.specs.Statements.{Spots}
 use Rattle.rv_asm.specs.Reading.{size_of, AreWordsOf, AreWordsOfAll, line_of, size_of_line, then_lines, lines_from, Assembles}
 use Rattle.rv_asm.specs.Parts.{IsPushed}

@@ -8,7 +8,8 @@ use Rattle.rv_decode.specs.Formats.{signed_reading}
 use Rattle.rv_decode.specs.Table.{IsRow, IsInst}
 use Rattle.rv_asm.specs.declared.name.Name.{Name}
 use Rattle.rv_asm.specs.Names.{name_text, name_of}
-use Rattle.rv_asm.specs.Text.{is_in_line, ends_in_return, is_no_sign, is_blank, is_solid, is_space, is_no_space, is_no_comma, is_first, is_label_byte, begins, ends}
+use Rattle.text_in.specs.Bytes.{Are, is_no_sign, is_blank, is_solid, is_space, is_no_space, is_no_comma, is_name_start, is_name_byte, begins, ends}
+use Rattle.text_in.specs.Lines.{AreTextLines, IsComment}
 use Rattle.rv_asm.specs.Numbers.{IsNumber, IsRegisterName}
 use Rattle.rv_asm.specs.Reading.{most_bytes}
 
@@ -23,8 +24,8 @@ pub record IsLabel (word : List ℕ) : Type 0 where
   pub first : ℕ
   pub more : List ℕ
   pub word_is : word ≡ first ∷ more
-  pub begins : is_first first ≡ true
-  pub goes_on : list_all is_label_byte more ≡ true
+  pub begins : is_name_start first ≡ true
+  pub goes_on : list_all is_name_byte more ≡ true
   pub no_name : (name : Name) → word ≡ name_text name → ⊥
 
 -- the label is one of the text's, behind so many words
@@ -104,10 +105,6 @@ IsStatement labels words name operands made =
 
 -- ---- lines
 
--- nothing but bytes that pass
-abbrev pub Are : (ℕ → Bool) → List ℕ → Type 0
-Are test bytes = list_all test bytes ≡ true
-
 -- the text is the operand, which no space begins or ends and which has no comma, with spaces round it
 pub record IsPadded (text operand : List ℕ) : Type 0 where
   pub before : List ℕ
@@ -143,11 +140,6 @@ IsBody labels words text None made = IsStatementText labels words text made
 IsBody labels words text (Some label) made =
     (blanks rest : List ℕ) × IsLabel label × Are is_blank blanks × (text ≡ label ++ 58 ∷ (blanks ++ rest)) × IsStatementText labels words rest made
 
--- nothing, or a number sign and whatever follows
-abbrev pub IsComment : List ℕ → Type 0
-IsComment [] = ⊤
-IsComment (b ∷ bs) = b ≡ 35
-
 -- the line is blanks, an optional label and statement, blanks and a comment, all of it ASCII; blanks at the end belong to no operand
 pub record IsLine (labels : List Label) (words : ℕ) (line : List ℕ) (label : Option (List ℕ)) (made : List ℕ) : Type 0 where
   pub before : List ℕ
@@ -164,25 +156,6 @@ pub record IsLine (labels : List Label) (words : ℕ) (line : List ℕ) (label :
   pub line_is : line ≡ before ++ (body ++ (after ++ comment))
 
 -- ---- the whole text
-
--- the text is the line, which has no line feed, then its end, and then the rest; a return right before the line feed is part of the end, and not of the line
-pub record IsFirstLine (text line rest : List ℕ) : Type 0 where
-  pub end : List ℕ
-  pub in_line : Are is_in_line line
-  pub is_end : ((end ≡ 10 ∷ []) × (ends_in_return line ≡ false)) ⊎ (end ≡ 13 ∷ 10 ∷ [])
-  pub text_is : text ≡ line ++ (end ++ rest)
-
--- the text is one line that no line feed ends, the last one
-pub record IsLastLine (text line : List ℕ) (lines : List (List ℕ)) : Type 0 where
-  pub in_line : Are is_in_line line
-  pub some : 0 < length line
-  pub text_is : text ≡ line
-  pub last : lines ≡ []
-
--- the text is these lines
-abbrev pub AreTextLines : List ℕ → List (List ℕ) → Type 0
-AreTextLines text [] = text ≡ []
-AreTextLines text (line ∷ lines) = ((rest : List ℕ) × IsFirstLine text line rest × AreTextLines rest lines) ⊎ IsLastLine text line lines
 
 -- the label of a line, with the number of words before it
 abbrev pub labelled : Option (List ℕ) → ℕ → List Label

@@ -5,23 +5,11 @@ use Rattle.std.specs.Option.{option_or}
 use Rattle.std.specs.Ordering.{nat_cmp}
 use Rattle.std.specs.Cmp.Lexicographic.{slice_cmp}
 use Rattle.std.specs.BTreeMap.{BTreeMap, get_by}
-use Rattle.rv_asm.specs.declared.class.Class.{Class}
-use Rattle.rv_asm.specs.declared.class.Class.TheVariants as classes
 use Rattle.rv_asm.specs.declared.label.Spot.{Spot}
-use Rattle.rv_asm.specs.Text.{is_number_sign, is_blank, is_solid, is_no_space, is_comma, is_open, ends_label, parts_of}
+use Rattle.rv_asm.specs.Text.{parts_of}
 use Rattle.rv_asm.specs.declared.statement.Statement.{Statement}
 use Rattle.rv_asm.specs.Statements.{Spots, FitsStatement}
 use Rattle.rv_asm.specs.Reading.{size_of, AreWordsOf, spot_in}
-
--- the byte is one of the class
-abbrev pub is_of : Class → ℕ → Bool
-is_of classes.NumberSign b = is_number_sign b
-is_of classes.Blank b = is_blank b
-is_of classes.Solid b = is_solid b
-is_of classes.NoSpace b = is_no_space b
-is_of classes.Comma b = is_comma b
-is_of classes.Open b = is_open b
-is_of classes.EndsLabel b = ends_label b
 
 -- the parts that are left behind a comma, where there was one
 abbrev pub parts_behind : Option (Bor (List ℕ)) → List (List ℕ)

@@ -18,7 +18,8 @@ use Rattle.rv_asm.specs.declared.label.Spot.{Spot}
 use Rattle.rv_asm.specs.declared.statement.Statement.{Statement}
 use Rattle.rv_asm.specs.declared.statement.Statement.TheVariants as statements
 use Rattle.rv_asm.specs.Names.{named}
-use Rattle.rv_asm.specs.Text.{lines_of, body_of, label_of, statement_text, name_word, operands_text, operands_of}
+use Rattle.text_in.specs.Lines.{lines_of}
+use Rattle.rv_asm.specs.Text.{body_of, label_of, statement_text, name_word, operands_text, operands_of}
 use Rattle.rv_asm.specs.Statements.{Spots, ◌>>=◌, fill_of, statement_of}
 
 -- ---- words

@@ -18,7 +18,9 @@ use Rattle.rv_asm.specs.declared.name.Name.TheVariants as names
 use Rattle.rv_asm.specs.declared.label.Spot.{Spot}
 use Rattle.rv_asm.specs.declared.statement.Statement.{Statement}
 use Rattle.rv_asm.specs.declared.statement.Statement.TheVariants as statements
-use Rattle.rv_asm.specs.Text.{from_first, is_label, is_open}
+use Rattle.text_in.specs.Cuts.{from_first}
+use Rattle.rv_asm.specs.Text.{is_label}
+use Rattle.text_in.specs.Bytes.{is_open}
 use Rattle.rv_asm.specs.Numbers.{number_of, register_of}
 
 -- goes on with what was read, or keeps the fault

@@ -1,15 +1,16 @@
 //! Where labels stand.
 
 ghost use Rattle.std.specs.Prelude.{◌≡◌, ◌≤◌, ℕ, List, length, OnOk, IfOk};
-ghost use Rattle.rv_asm.specs.Text.{lines_of};
+ghost use Rattle.text_in.specs.Lines.{lines_of};
 ghost use Rattle.rv_asm.specs.Parts.{spots_in, IsKept};
 ghost use Rattle.rv_asm.specs.Reading.{most_bytes, spots_of, words_in, size_by};
 
 use crate::name::Name;
 use crate::operand::fill;
-use crate::text::{line_body, next_line, split_label, split_name};
+use crate::text::{line_body, split_label, split_name};
 use std::alloc::{AllocError, Global};
 use std::collections::BTreeMap;
+use text_in::next_line;
 
 /// Where a label stands.
 #[derive(Clone, Copy, Debug, PartialEq, Eq)]

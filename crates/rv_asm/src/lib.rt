@@ -1,7 +1,6 @@
 //! The assembler of guest programs: a text in, its words out, or the first fault.
 #![tactic(auto)]
 
-mod class;
 mod fault;
 mod label;
 mod name;

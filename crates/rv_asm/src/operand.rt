@@ -5,11 +5,11 @@ ghost use Rattle.rv_asm.specs.Text.{operands_of};
 ghost use Rattle.rv_asm.specs.Parts.{viewed, spots_in};
 ghost use Rattle.rv_asm.specs.Statements.{number_in, register_in, distance, even, target_in, based_of, based_in, displaced_in, fill, fill_of, none_of, one_of, two_of, three_of, within};
 
-use crate::class::Class;
 use crate::fault::AsmKind;
 use crate::label::{Labels, Spot};
 use crate::number::{word_number, word_register};
 use crate::text::{is_label, split_comma};
+use text_in::Class;
 
 /// That there is no operand.
 pub fn none(text: &[u8]) -> Result<(), AsmKind>
@@ -171,7 +171,7 @@ pub fn based(word: &[u8]) -> Result<u8, AsmKind>
     ensures fits { IfOk result (λ r. r < 32) }
 {
     match word {
-        [b'(', inner @ .., b')'] => register(inner),
+        [first, inner @ .., last] if *first == b'(' && *last == b')' => register(inner),
         _ => Err(AsmKind::BadOperand),
     }
 }

@@ -1,7 +1,7 @@
 //! Whole texts.
 
 ghost use Rattle.std.specs.Prelude.{◌≡◌, ℕ, ◌≤◌, List, ◌++◌, ◌+◌, length, replicate, OnOk, IfOk};
-ghost use Rattle.rv_asm.specs.Text.{lines_of};
+ghost use Rattle.text_in.specs.Lines.{lines_of};
 ghost use Rattle.rv_asm.specs.Parts.{viewed, spots_in, IsLine, IsPushed};
 ghost use Rattle.rv_asm.specs.Statements.{FitsStatement};
 ghost use Rattle.rv_asm.specs.Answers.{Gives, Faults};
@@ -12,9 +12,10 @@ use crate::fault::{AsmError, AsmFault, AsmKind};
 use crate::label::{Labels, find_labels};
 use crate::name::Name;
 use crate::statement::{Statement, read_statement};
-use crate::text::{all_ascii, line_body, next_line, split_label, split_name};
+use crate::text::{line_body, split_label, split_name};
 use rv_decode::encode;
 use std::alloc::{AllocError, Global};
+use text_in::{all_ascii, next_line};
 
 /// The most bytes of a text.
 pub const LIMIT: usize = 1_048_576;

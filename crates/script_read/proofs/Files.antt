@@ -1,8 +1,7 @@
 -- A file is read up to one byte past the limit, which tells as much of a script as the whole file.
 use Rattle.std.proofs.Common.{◌≡◌, ℕ, ◌+◌, ◌<◌, List, length, take, Option, Some, None, Result, Ok, Err, refl, sym, ap, subst, ◌∙◌, arith, inl, inr}
 use Rattle.std.specs.Prelude.{IfOk}
-use Rattle.std.proofs.lemmas.Bool.{cases_lt, lt-ltb}
-use Rattle.std.proofs.lemmas.List.{take_all, length-take}
+use Rattle.std.proofs.lemmas.Bool.{lt-ltb}
 use Rattle.mon_types.specs.declared.script.Line.{Line}
 use Rattle.mon_types.specs.declared.script.Script.{Script}
 use Rattle.sm_ports.specs.Contents.{IsFile}
@@ -14,6 +13,7 @@ use Rattle.script_read.specs.declared.fault.ScriptError.{ScriptError}
 use Rattle.script_read.specs.Grammar.{limit, IsScript}
 use Rattle.script_read.specs.Reading.{all_lines, script_of}
 use Rattle.script_read.specs.Answers.{Gives, FileGives, FileFound, FileOnly, FileExact, widened}
+use Rattle.text_in.proofs.Files.{cut_same}
 use Rattle.script_read.proofs.ScriptLaws.{script_is, script_found}
 
 long_script : (cores : Option ℕ) (bytes : List ℕ) → limit < length bytes → script_of cores bytes ≡ Err faults.TooLong
@@ -21,11 +21,7 @@ unfolding script_of all_lines
 long_script cores bytes lt = rw (lt-ltb limit (length bytes) lt) refl
 
 cut_script : (cores : Option ℕ) (bytes : List ℕ) → script_of cores (take (limit + 1) bytes) ≡ script_of cores bytes
-cut_script cores bytes =
-    elim (cases_lt limit (length bytes)) [
-      | inl lt ↦ long_script cores (take (limit + 1) bytes) (omega (arith, length-take (limit + 1) bytes)) ∙ sym (long_script cores bytes lt)
-      | inr le ↦ ap (script_of cores) (take_all (limit + 1) bytes (omega arith))
-    ]
+cut_script cores bytes = cut_same (script_of cores) (Err faults.TooLong) limit bytes (long_script cores)
 
 widened_gives : (parsed : Result Script ParseError) (read : Result (List (List Line)) ScriptFault) → Gives (λ s. s.cores) parsed read → FileGives (λ s. s.cores) (widened parsed) read
 widened_gives (Ok s) read h = h

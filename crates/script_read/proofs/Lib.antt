@@ -1,10 +1,6 @@
-mod Texts
-mod Digits
 mod Arguments
 mod Lines
 mod Cores
-mod NumberLaws
-mod TextLaws
 mod FormLaws
 mod LineLaws
 mod ScriptLaws

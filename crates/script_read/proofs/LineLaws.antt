@@ -1,5 +1,5 @@
 -- A line is read as what it stands for in the grammar, and as nothing else.
-use Rattle.std.proofs.Common.{◌≡◌, ℕ, suc, ◌+◌, ◌≤◌, ◌⊎◌, Bool, true, false, ◌&&◌, ltb, List, [], ◌∷◌, ◌++◌, length, Option, Some, None, Result, Ok, Err, refl, sym, ap, subst, ◌∙◌, arith, inl, inr}
+use Rattle.std.proofs.Common.{◌≡◌, ℕ, suc, ◌+◌, ◌-◌, ◌^◌, ◌<◌, ◌≤◌, ◌⊎◌, Bool, true, false, ◌&&◌, ltb, List, [], ◌∷◌, ◌++◌, length, Option, Some, None, Result, Ok, Err, refl, sym, ap, subst, ◌∙◌, arith, inl, inr}
 use Rattle.std.specs.Prelude.{codes}
 use Rattle.std.specs.List.{list_all}
 use Rattle.std.specs.Char.{is_ascii}
@@ -19,17 +19,27 @@ use Rattle.script_read.specs.declared.form.Form.TheVariants as forms
 use Rattle.script_read.specs.declared.fault.LineKind.{LineKind}
 use Rattle.script_read.specs.declared.fault.LineKind.TheVariants as kinds
 use Rattle.script_read.specs.declared.fault.ScriptFault.TheVariants as faults
-use Rattle.script_read.specs.Text.{is_blank, before_comment, words_of}
-use Rattle.script_read.specs.Numbers.{IsDigit, AreDigits, IsDecimal, IsHexadecimal, IsNumber, with_bytes, number_of}
+use Rattle.text_in.specs.Bytes.{is_blank}
+use Rattle.text_in.specs.Cuts.{before_comment}
+use Rattle.text_in.specs.Words.{IsFirstWord, AreWords, words_of}
+use Rattle.text_in.specs.Numbers.{IsDigit, AreDigits, IsUnsigned, with_bytes, unsigned_of}
 use Rattle.mon_types.specs.Owns.{os_word}
 use Rattle.script_read.specs.Forms.{form_name, least, most, takes_os, form_line, form_named, is_later_word}
-use Rattle.script_read.specs.Grammar.{IsFirstWord, AreWords, is_owner_place, IsArgument, AreArguments, AreNumbers, IsCallLine, IsEcallLine, IsPcLine, IsRegLine, StandsFor, IsLine}
-use Rattle.script_read.specs.Reading.{argument_of, arguments_of, with_zeros, line_with, form_read, at_line, line_in, line_of_words, line_of}
-use Rattle.script_read.proofs.NumberLaws.{number_is, number_found}
-use Rattle.script_read.proofs.TextLaws.{words_are, words_found, front_is, has_comment}
+use Rattle.script_read.specs.Grammar.{IsNumber, is_owner_place, IsArgument, AreArguments, AreNumbers, IsCallLine, IsEcallLine, IsPcLine, IsRegLine, StandsFor, IsLine}
+use Rattle.script_read.specs.Reading.{number_of, argument_of, arguments_of, with_zeros, line_with, form_read, at_line, line_in, line_of_words, line_of}
+use Rattle.text_in.proofs.Numbers.{unsigned_read, unsigned_is, up_to_is, up_to_read}
+use Rattle.text_in.proofs.Words.{words_are, words_found}
+use Rattle.text_in.proofs.Lines.{front_is, has_comment}
+use Rattle.text_in.proofs.Cuts.{all_from}
 use Rattle.script_read.proofs.FormLaws.{HoldsForm, named_is, named_holds, has_form, ecall_line, ecall_word, tick_word, pc_word, reg_word, pc_is, pc_found, reg_is, reg_found}
 
 -- ---- arguments
+
+number_is : (word : List ℕ) (n : ℕ) → IsNumber word n → number_of word ≡ Some n
+number_is word n h = up_to_read (2 ^ 64 - 1) (unsigned_of word) n (unsigned_read word n h.1) (omega (arith, h.0))
+
+number_found : (word : List ℕ) (n : ℕ) → number_of word ≡ Some n → IsNumber word n
+number_found word n h = let p = up_to_is (2 ^ 64 - 1) (unsigned_of word) n h in (omega (arith, p.1), unsigned_is word n p.0)
 
 no_number : number_of (codes "os") ≡ None
 unfolding with_bytes
@@ -295,10 +305,6 @@ words_line_found n (word ∷ args) line h =
 
 -- ---- bytes that are not ASCII
 
-ascii_from : (test : ℕ → Bool) (bytes : List ℕ) → ((b : ℕ) → test b ≡ true → is_ascii b ≡ true) → list_all test bytes ≡ true → list_all is_ascii bytes ≡ true
-ascii_from test [] all h = refl
-ascii_from test (b ∷ bs) all h = let p = and_parts (test b) (list_all test bs) h in and_from (is_ascii b) (list_all is_ascii bs) (all b p.0) (ascii_from test bs all p.1)
-
 blank_ascii : (b : ℕ) → is_blank b ≡ true → is_ascii b ≡ true
 blank_ascii b h = grind (arith, nat_tests)
 
@@ -309,15 +315,12 @@ digits_ascii : (base : ℕ) (bytes : List ℕ) (n : ℕ) → AreDigits base byte
 digits_ascii base [] n h = refl
 digits_ascii base (b ∷ bs) n h = and_from (is_ascii b) (list_all is_ascii bs) (digit_ascii b h.0 h.3) (digits_ascii base bs h.1 h.4)
 
-number_ascii : (word : List ℕ) (n : ℕ) → IsNumber word n → list_all is_ascii word ≡ true
-number_ascii word n h = by_form h.form
-  where
-    by_form : IsDecimal word n ⊎ IsHexadecimal word n → list_all is_ascii word ≡ true
-    by_form (inl d) = digits_ascii 10 word n d.1
-    by_form (inr x) = ap (list_all is_ascii) x.1 ∙ digits_ascii 16 x.0 n x.3
+number_ascii : (word : List ℕ) (n : ℕ) → IsUnsigned word n → list_all is_ascii word ≡ true
+number_ascii word n (inl d) = digits_ascii 10 word n d.1
+number_ascii word n (inr x) = ap (list_all is_ascii) x.1 ∙ digits_ascii 16 x.0 n x.3
 
 argument_ascii : (os_there : ℕ → Bool) (place : ℕ) (word : List ℕ) (n : ℕ) → IsArgument os_there place word n → list_all is_ascii word ≡ true
-argument_ascii os_there place word n (inl h) = number_ascii word n h
+argument_ascii os_there place word n (inl h) = number_ascii word n h.1
 argument_ascii os_there place word n (inr h) = ap (list_all is_ascii) h.1
 
 abbrev AreAscii : List (List ℕ) → Type 0
@@ -349,22 +352,22 @@ words_ascii words (Some (lines.SetPc pc)) h = pair_ascii nowhere words (codes "p
 words_ascii words (Some (lines.SetReg x value)) h = pair_ascii nowhere words (codes "reg") h.numbers (x ∷ value ∷ []) h.words_are refl h.are_numbers
 
 front_ascii : (text : List ℕ) (words : List (List ℕ)) → AreWords text words → AreAscii words → list_all is_ascii text ≡ true
-front_ascii text [] h a = ascii_from is_blank text blank_ascii h
+front_ascii text [] h a = all_from is_blank is_ascii text blank_ascii h
 front_ascii text (word ∷ words) h a =
     let p = and_parts (list_all is_ascii word) (list_all (list_all is_ascii) words) a in
     let first : IsFirstWord text word h.0 = h.1 in
     let behind : list_all is_ascii (word ++ h.0) ≡ true = list_all-append is_ascii word h.0 ∙ and_from (list_all is_ascii word) (list_all is_ascii h.0) p.0 (front_ascii h.0 words h.2 p.1) in
     ap (list_all is_ascii) first.text_is ∙ list_all-append is_ascii first.blanks (word ++ h.0)
-    ∙ and_from (list_all is_ascii first.blanks) (list_all is_ascii (word ++ h.0)) (ascii_from is_blank first.blanks blank_ascii first.are_blank) behind
+    ∙ and_from (list_all is_ascii first.blanks) (list_all is_ascii (word ++ h.0)) (all_from is_blank is_ascii first.blanks blank_ascii first.are_blank) behind
 
 -- ---- lines
 
 pub line_is : (n : ℕ) (text : List ℕ) (line : Option Line) → IsLine text line → line_of n text ≡ Ok line
 unfolding line_of
 line_is n text line h =
-    let front : before_comment text ≡ h.front = ap before_comment h.text_is ∙ front_is h.front h.comment h.plain h.is_comment in
-    let ascii : list_all is_ascii h.front ≡ true = front_ascii h.front h.words h.are_words (words_ascii h.words line h.stands) in
-    rw front (rw ascii (ap (line_of_words n) (words_are h.front h.words h.are_words) ∙ words_stand n h.words line h.stands))
+    let before : before_comment text ≡ h.before = ap before_comment h.text_is ∙ front_is h.before h.comment h.no_sign h.is_comment in
+    let ascii : list_all is_ascii h.before ≡ true = front_ascii h.before h.words h.are_words (words_ascii h.words line h.stands) in
+    rw before (rw ascii (ap (line_of_words n) (words_are h.before h.words h.are_words) ∙ words_stand n h.words line h.stands))
 
 pub line_found : (n : ℕ) (text : List ℕ) (line : Option Line) → line_of n text ≡ Ok line → IsLine text line
 unfolding line_of
@@ -372,11 +375,11 @@ line_found n text line h =
     let c = has_comment text in
     elim (cases_Bool (list_all is_ascii (before_comment text))) [
       | inl t ↦ record {
-        front = before_comment text;
+        before = before_comment text;
         comment = c.comment;
         words = words_of (before_comment text);
         text_is = c.text_is;
-        plain = c.plain;
+        no_sign = c.no_sign;
         is_comment = c.is_comment;
         are_words = words_found (before_comment text) (words_of (before_comment text)) refl;
         stands = words_line_found n (words_of (before_comment text)) line (rw t at h);

@@ -5,8 +5,8 @@ use Rattle.std.proofs.lemmas.Bool.{eqb-true}
 use Rattle.std.proofs.lemmas.List.{append-nil, nil_from_length}
 use Rattle.mon_types.specs.declared.script.Line.{Line}
 use Rattle.script_read.specs.declared.fault.ScriptFault.{ScriptFault}
-use Rattle.script_read.specs.Text.{lines_of}
-use Rattle.script_read.proofs.Texts.{no_lines}
+use Rattle.text_in.specs.Lines.{lines_of}
+use Rattle.text_in.proofs.Lines.{no_lines}
 use Rattle.script_read.specs.Reading.{◌>>=◌, line_of, lines_from}
 
 -- the lines that were read, and behind them those that are still read

@@ -10,11 +10,11 @@ use Rattle.mon_types.specs.declared.script.Script.{Script}
 use Rattle.script_read.specs.declared.fault.ScriptFault.{ScriptFault}
 use Rattle.script_read.specs.declared.fault.ScriptFault.TheVariants as faults
 use Rattle.script_read.specs.declared.fault.ParseError.{ParseError}
-use Rattle.script_read.specs.Text.{lines_of}
+use Rattle.text_in.specs.Lines.{lines_of}
 use Rattle.script_read.specs.Grammar.{AreLines, core_count, for_cores, limit, IsScript}
 use Rattle.script_read.specs.Reading.{◌>>=◌, line_of, lines_from, all_lines, script_of}
 use Rattle.script_read.specs.Answers.{Gives}
-use Rattle.script_read.proofs.TextLaws.{text_lines_are, text_lines_found}
+use Rattle.text_in.proofs.Lines.{text_lines_are, text_lines_found}
 use Rattle.script_read.proofs.LineLaws.{line_is, line_found}
 
 -- ---- what is in the grammar is read so

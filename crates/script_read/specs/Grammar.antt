@@ -1,42 +1,22 @@
 -- The grammar of scripts, apart from the way in which they are read. All of it is this project's own.
-use Rattle.std.specs.Prelude.{◌≡◌, ℕ, ◌+◌, ◌-◌, ◌%◌, ◌<◌, ◌≤◌, ◌⊎◌, Bool, true, false, ◌==◌, List, [], ◌∷◌, ◌++◌, length, replicate, codes, Option, Some, None, ⊤}
-use Rattle.std.specs.List.{list_all}
+use Rattle.std.specs.Prelude.{◌≡◌, ℕ, ◌+◌, ◌-◌, ◌%◌, ◌^◌, ◌<◌, ◌≤◌, ◌⊎◌, Bool, true, false, ◌==◌, List, [], ◌∷◌, ◌++◌, length, replicate, codes, Option, Some, None, ⊤}
 use Rattle.std.specs.Option.{option_to_list, unwrap_or}
 use Rattle.mon_types.specs.Calls.{call_name, call_args, call_of_registers}
 use Rattle.mon_types.specs.declared.call.Call.{Call}
 use Rattle.mon_types.specs.declared.call.Call.TheVariants as calls
 use Rattle.mon_types.specs.declared.script.Line.{Line}
 use Rattle.mon_types.specs.declared.script.Line.TheVariants as lines
-use Rattle.script_read.specs.Text.{is_in_line, ends_in_return, is_plain, is_blank, is_letter}
-use Rattle.script_read.specs.Numbers.{IsNumber}
 use Rattle.mon_types.specs.Owns.{os_word}
+use Rattle.text_in.specs.Bytes.{is_no_sign, Are}
+use Rattle.text_in.specs.Lines.{AreTextLines, IsComment}
+use Rattle.text_in.specs.Words.{AreWords}
+use Rattle.text_in.specs.Numbers.{IsUnsigned}
 
--- ---- words
+-- ---- arguments
 
--- nothing but blanks
-abbrev pub AreBlank : List ℕ → Type 0
-AreBlank bytes = list_all is_blank bytes ≡ true
-
--- nothing, or a blank and whatever follows
-abbrev pub BeginsBlank : List ℕ → Type 0
-BeginsBlank [] = ⊤
-BeginsBlank (b ∷ bs) = is_blank b ≡ true
-
--- the text is blanks, then the word, which has bytes and no blank among them, and then the rest, which begins with a blank where there is any
-pub record IsFirstWord (text word rest : List ℕ) : Type 0 where
-  pub blanks : List ℕ
-  pub are_blank : AreBlank blanks
-  pub some : 0 < length word
-  pub letters : list_all is_letter word ≡ true
-  pub apart : BeginsBlank rest
-  pub text_is : text ≡ blanks ++ (word ++ rest)
-
--- the text is these words, with blanks between them, and round them where there are any
-abbrev pub AreWords : List ℕ → List (List ℕ) → Type 0
-AreWords text [] = AreBlank text
-AreWords text (word ∷ words) = (rest : List ℕ) × IsFirstWord text word rest × AreWords rest words
-
--- ---- lines
+-- the word is the number, which is below 2 ^ 64
+abbrev pub IsNumber : List ℕ → ℕ → Type 0
+IsNumber word n = (n < 2 ^ 64) × IsUnsigned word n
 
 -- the word stands for the argument at this place, counted from 0; `os` may stand where os_there says so
 abbrev pub IsArgument : (ℕ → Bool) → ℕ → List ℕ → ℕ → Type 0
@@ -107,20 +87,15 @@ StandsFor words (Some (lines.StoreWord va value)) = ⊥
 StandsFor words (Some (lines.SetPc pc)) = IsPcLine words pc
 StandsFor words (Some (lines.SetReg x value)) = IsRegLine words x value
 
--- nothing, or a number sign and whatever follows
-abbrev pub IsComment : List ℕ → Type 0
-IsComment [] = ⊤
-IsComment (b ∷ bs) = b ≡ 35
-
 -- the text of a line is words and a comment
 pub record IsLine (text : List ℕ) (line : Option Line) : Type 0 where
-  pub front : List ℕ
+  pub before : List ℕ
   pub comment : List ℕ
   pub words : List (List ℕ)
-  pub text_is : text ≡ front ++ comment
-  pub plain : list_all is_plain front ≡ true
+  pub text_is : text ≡ before ++ comment
+  pub no_sign : Are is_no_sign before
   pub is_comment : IsComment comment
-  pub are_words : AreWords front words
+  pub are_words : AreWords before words
   pub stands : StandsFor words line
 
 -- the texts of lines stand for these lines, empty ones for none
@@ -129,25 +104,6 @@ AreLines [] made = made ≡ []
 AreLines (text ∷ texts) made = (line : Option Line) × (others : List Line) × IsLine text line × (made ≡ option_to_list line ++ others) × AreLines texts others
 
 -- ---- the whole file
-
--- the text is the line, which has no line feed, then its end, and then the rest; a return right before the line feed is part of the end, and not of the line
-pub record IsFirstLine (text line rest : List ℕ) : Type 0 where
-  pub end : List ℕ
-  pub in_line : list_all is_in_line line ≡ true
-  pub is_end : ((end ≡ 10 ∷ []) × (ends_in_return line ≡ false)) ⊎ (end ≡ 13 ∷ 10 ∷ [])
-  pub text_is : text ≡ line ++ (end ++ rest)
-
--- the text is one line that no line feed ends, the last one
-pub record IsLastLine (text line : List ℕ) (lines : List (List ℕ)) : Type 0 where
-  pub in_line : list_all is_in_line line ≡ true
-  pub some : 0 < length line
-  pub text_is : text ≡ line
-  pub last : lines ≡ []
-
--- the text is these lines
-abbrev pub AreTextLines : List ℕ → List (List ℕ) → Type 0
-AreTextLines text [] = text ≡ []
-AreTextLines text (line ∷ lines) = ((rest : List ℕ) × IsFirstLine text line rest × AreTextLines rest lines) ⊎ IsLastLine text line lines
 
 -- the most bytes of a script
 abbrev pub limit : ℕ

@@ -1,5 +1,5 @@
 -- Reading a script line by line from the front, with the first fault that is met. All of it is this project's own.
-use Rattle.std.specs.Prelude.{ℕ, ◌+◌, ◌-◌, nat_lt, ◌&&◌, if◌then◌else◌, List, [], ◌∷◌, ◌++◌, length, replicate, codes, Option, Some, None, Result, Ok, Err}
+use Rattle.std.specs.Prelude.{ℕ, ◌+◌, ◌-◌, ◌^◌, nat_lt, ◌&&◌, if◌then◌else◌, List, [], ◌∷◌, ◌++◌, length, replicate, codes, Option, Some, None, Result, Ok, Err}
 use Rattle.std.specs.List.{list_all}
 use Rattle.std.specs.Option.{option_and_then, option_map, option_to_list, ok_or}
 use Rattle.std.specs.Char.{is_ascii}
@@ -10,15 +10,22 @@ use Rattle.script_read.specs.declared.fault.LineKind.{LineKind}
 use Rattle.script_read.specs.declared.fault.LineKind.TheVariants as kinds
 use Rattle.script_read.specs.declared.fault.ScriptFault.{ScriptFault}
 use Rattle.script_read.specs.declared.fault.ScriptFault.TheVariants as faults
-use Rattle.script_read.specs.Text.{lines_of, before_comment, words_of}
-use Rattle.script_read.specs.Numbers.{number_of}
+use Rattle.text_in.specs.Cuts.{before_comment}
+use Rattle.text_in.specs.Lines.{lines_of}
+use Rattle.text_in.specs.Words.{words_of}
+use Rattle.text_in.specs.Numbers.{unsigned_of, up_to}
 use Rattle.script_read.specs.Grammar.{limit, for_cores}
 use Rattle.mon_types.specs.Owns.{os_word}
 use Rattle.script_read.specs.Forms.{least, most, takes_os, form_line, form_named, is_later_word}
 
+-- the number of a word, where it is one below 2 ^ 64
+abbrev pub number_of : List ℕ → Option ℕ
+number_of word = up_to (2 ^ 64 - 1) (unsigned_of word)
+
 -- the number that an argument stands for
 abbrev pub argument_of : Form → ℕ → List ℕ → Option ℕ
-argument_of form place word = if takes_os form place && bytes_eq word (codes "os") then Some os_word else number_of word
+argument_of form place word =
+    if takes_os form place && bytes_eq word (codes "os") then Some os_word else number_of word
 
 -- the numbers that the arguments from this place on stand for
 unfoldable pub arguments_of : Form → ℕ → List (List ℕ) → Option (List ℕ)
@@ -58,7 +65,9 @@ line_of_words n (word ∷ words) = if is_later_word word then Err (faults.NotBui
 
 -- what the line of this number stands for
 unfoldable pub line_of : ℕ → List ℕ → Result (Option Line) ScriptFault
-line_of n text = if list_all is_ascii (before_comment text) then line_of_words n (words_of (before_comment text)) else Err (faults.BadLine n kinds.UnknownWord)
+line_of n text =
+    if list_all is_ascii (before_comment text) then line_of_words n (words_of (before_comment text))
+    else Err (faults.BadLine n kinds.UnknownWord)
 
 -- goes on with what was read, or keeps the fault
 infixl 10 ◌>>=◌

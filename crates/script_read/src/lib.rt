@@ -4,11 +4,9 @@
 mod fault;
 mod form;
 mod line;
-mod number;
 mod script;
 #[cfg(test)]
 mod tests;
-mod text;
 
 pub use fault::{LineKind, ParseError, ScriptError, ScriptFault};
 pub use script::{LIMIT, parse_script, read_script};

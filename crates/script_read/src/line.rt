@@ -2,24 +2,23 @@
 
 ghost use Rattle.std.specs.Prelude.{◌≡◌, ◌≤◌, ◌∷◌, length};
 ghost use Rattle.std.specs.Option.{option_map};
-ghost use Rattle.script_read.specs.Text.{words_of};
+ghost use Rattle.text_in.specs.Words.{words_of};
 ghost use Rattle.script_read.specs.Forms.{most};
 ghost use Rattle.script_read.specs.Reading.{argument_of, arguments_of, with_zeros, line_with, form_read, line_of_words, line_of};
 
 use crate::fault::{LineKind, ScriptFault};
 use crate::form::{Form, is_later};
-use crate::number::word_number;
-use crate::text::{all_ascii, before_number_sign, count_words, next_word};
 use mon_types::{Line, OS_WORD};
+use text_in::{all_ascii, before_comment, count_words, next_word, unsigned_number};
 
 /// What the line of this number stands for; None where it is empty.
 #[tactic(auto, unfolding(crate::specs::Reading::line_of))]
 pub fn read_line(line: u32, text: &[u8]) -> Result<Option<Line>, ScriptFault>
     ensures { result ≡ line_of line text.now }
 {
-    let front = before_number_sign(text);
-    if all_ascii(front) {
-        read_words(line, front)
+    let before = before_comment(text);
+    if all_ascii(before) {
+        read_words(line, before)
     } else {
         Err(ScriptFault::BadLine {
             line,
@@ -29,10 +28,10 @@ pub fn read_line(line: u32, text: &[u8]) -> Result<Option<Line>, ScriptFault>
 }
 
 #[tactic(auto, unfolding(crate::specs::Reading::line_of_words))]
-fn read_words(line: u32, front: &[u8]) -> Result<Option<Line>, ScriptFault>
-    ensures { result ≡ line_of_words line (words_of front.now) }
+fn read_words(line: u32, text: &[u8]) -> Result<Option<Line>, ScriptFault>
+    ensures { result ≡ line_of_words line (words_of text.now) }
 {
-    let Some((word, rest)) = next_word(front) else {
+    let Some((word, rest)) = next_word(text) else {
         return Ok(None);
     };
     if is_later(word) {
@@ -96,6 +95,6 @@ fn read_argument(form: Form, place: usize, word: &[u8]) -> Option<u64>
     if form.takes_os(place) && word == b"os".as_slice() {
         Some(OS_WORD)
     } else {
-        word_number(word)
+        unsigned_number(word, u64::MAX)
     }
 }

@@ -3,17 +3,17 @@
 ghost use Rattle.std.specs.Prelude.{◌≡◌, ◌≤◌, ℕ, List, length, Ok, Err, IfOk, IfSome};
 ghost use Rattle.mon_types.specs.declared.script.Line.{Line};
 ghost use Rattle.sm_ports.specs.Causes.{Rose};
-ghost use Rattle.script_read.specs.Text.{lines_of};
+ghost use Rattle.text_in.specs.Lines.{lines_of};
 ghost use Rattle.script_read.specs.Grammar.{core_count, for_cores, limit, IsScript};
 ghost use Rattle.script_read.specs.Reading.{lines_from, all_lines, script_of};
 ghost use Rattle.script_read.specs.Answers.{Gives, FileFound, FileOnly, FileExact, widened, AreFew};
 
 use crate::fault::{ParseError, ScriptError, ScriptFault};
 use crate::line::read_line;
-use crate::text::next_line;
 use mon_types::{Items, Line, Script};
 use sm_ports::{Depot, Failed, ReadError, read_file};
 use std::alloc::Global;
+use text_in::next_line;
 
 /// The most bytes of a script.
 pub const LIMIT: usize = 1_048_576;

@@ -1,6 +1,6 @@
 use Rattle.std.proofs.Common.{◌≡◌, ◌≤◌, ℕ, List, length, ◌+◌, ◌*◌}
 use Rattle.std.specs.Option.{option_or}
-use Rattle.rv_asm.specs.Text.{lines_of}
+use Rattle.text_in.specs.Lines.{lines_of}
 use Rattle.rv_asm.specs.Parts.{spots_in}
 use Rattle.rv_asm.specs.Reading.{most_bytes, labels_from, spot_in, spots_of}
 use Rattle.rv_asm.proofs.label.find_labels.Given as goal

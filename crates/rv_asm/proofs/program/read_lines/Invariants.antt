@@ -1,5 +1,5 @@
 use Rattle.std.proofs.Common.{◌≤◌, ◌+◌, length}
-use Rattle.rv_asm.specs.Text.{lines_of}
+use Rattle.text_in.specs.Lines.{lines_of}
 use Rattle.rv_asm.specs.Parts.{spots_in}
 use Rattle.rv_asm.specs.Reading.{most_bytes, lines_from}
 use Rattle.rv_asm.proofs.Words.{AreSoFar}

@@ -1,5 +1,5 @@
 use Rattle.std.proofs.Common.{◌≡◌, ◌+◌, ◌-◌, length, replicate, take, drop}
-use Rattle.script_read.specs.Text.{words_of}
+use Rattle.text_in.specs.Words.{words_of}
 use Rattle.script_read.specs.Reading.{arguments_of}
 use Rattle.script_read.proofs.Arguments.{behind}
 use Rattle.script_read.proofs.line.read_arguments.Given as goal

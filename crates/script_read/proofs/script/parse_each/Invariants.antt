@@ -1,5 +1,5 @@
 use Rattle.std.proofs.Common.{◌≡◌, ◌+◌, ◌≤◌, length}
-use Rattle.script_read.specs.Text.{lines_of}
+use Rattle.text_in.specs.Lines.{lines_of}
 use Rattle.script_read.specs.Reading.{lines_from}
 use Rattle.script_read.proofs.Lines.{behind}
 use Rattle.script_read.proofs.script.parse_each.Given as goal

@@ -1,8 +1,0 @@
-use Rattle.script_read.proofs.Texts.{return_dropped_at, return_kept_at}
-use Rattle.script_read.proofs.text.drop_return.Goals as goal
-
-pub returns-in-len1-up : goal.returns-in-len1-up
-returns-in-len1-up c = return_dropped_at c.args.line.now c.in-len1-up.len_at_least c.if-last-eq13.true
-
-pub returns-in_default-2 : goal.returns-in_default-2
-returns-in_default-2 c = return_kept_at c.args.line.now c.in-len1-up.len_at_least c.if-last-eq13.false

@@ -1,7 +1,0 @@
-use Rattle.std.proofs.Common.{◌≡◌, true, take}
-use Rattle.std.specs.List.{list_all}
-use Rattle.script_read.specs.Text.{is_in_line}
-use Rattle.script_read.proofs.text.next_line.Given as goal
-
-abbrev pub invariant-loop-i : goal.invariant-loop-i
-invariant-loop-i l = list_all is_in_line (take l.i l.bytes) ≡ true
