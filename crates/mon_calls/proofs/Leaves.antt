@@ -38,9 +38,9 @@ use Rattle.mon_regions.specs.Named.{given_to}
 use Rattle.lock_plan.specs.EveryPlan.{tries_held}
 use Rattle.lock_plan.specs.declared.held.Held.{Held}
 use Rattle.lock_plan.specs.Objects.{IsCaller}
-use Rattle.lock_plan.specs.Plan.{first_region, first_enclave}
+use Rattle.lock_plan.specs.Plan.{first_region, first_enclave, second_enclave}
 use Rattle.lock_plan.specs.Records.{records_of}
-use Rattle.mon_calls.specs.OnHeld.{second_enclave, put_enclave, put_second, put_thread, put_region, put_cell}
+use Rattle.mon_calls.specs.OnHeld.{put_enclave, put_second, put_thread, put_region, put_cell}
 use Rattle.mon_calls.specs.Left.{delete_regions, left_by}
 use Rattle.mon_calls.specs.Decided.{AreLeft}
 use Rattle.mon_calls.proofs.Said.{own_said, shut, two_slots}
