@@ -52,7 +52,7 @@ module _ (s : State) (tables : AreTables s) (facts : FactsHold s) (ranges : AreI
   root_of : (e : ℕ) (root : Option ℕ) → (enclave_at s e).root ≡ root → HasRootWithin s.shape root
   root_of e None h = tt
   root_of e (Some page) h =
-      let placed = facts.roots e page h in
+      let placed = facts.root_pages e page h in
       let next = (tables.items e).next in
       omega (arith, placed.below, next)
 
