@@ -22,7 +22,7 @@ use Rattle.loaded_pages.proofs.Loads.{content_start, content_stays}
 
 -- ---- the cores of the entries
 
-abbrev AreOf : ℕ → List Entry → Type 0
+abbrev pub AreOf : ℕ → List Entry → Type 0
 AreOf n es = AllByRecursion (λ e. e.core < n) es
 
 own_of : (n core serial before : ℕ) (es : List Entry) → core < n → AreOwn core serial before es → AreOf n es
@@ -59,7 +59,7 @@ refused_content : (s : State) (f : Content) (e : Entry) (words : List ℕ) → i
 unfolding content_after
 refused_content s f e words refused = ap (λ b. cond b (content_by s e.call words f) f) refused
 
-entry_reached : (answers : List (List ℕ)) (s : State) (f : Content) (e : Entry) → e.core < s.shape.cores → IsLegalEntry s e → Reached s f → Reached (after_entry s e) (after_one answers s e f)
+pub entry_reached : (answers : List (List ℕ)) (s : State) (f : Content) (e : Entry) → e.core < s.shape.cores → IsLegalEntry s e → Reached s f → Reached (after_entry s e) (after_one answers s e f)
 entry_reached answers s f e small legal h = by (is_concurrent e.reply) (not_done e.reply) legal.reply
   where
     x : State
@@ -69,7 +69,7 @@ entry_reached answers s f e small legal h = by (is_concurrent e.reply) (not_done
     by true refused reply = subst (Reached s) (sym (refused_content s f e (entry_words answers e) (refused refl))) h
     by false refused reply = subst (λ (r : Reply). Reached x (content_after s r e.call (entry_words answers e) f)) (sym (reply refl)) (one_call s f e.core e (entry_words answers e) (digest_of e.page) e.ticket small h)
 
-entry_shape : (s : State) (e : Entry) → (after_entry s e).shape ≡ s.shape
+pub entry_shape : (s : State) (e : Entry) → (after_entry s e).shape ≡ s.shape
 entry_shape s e = by (is_concurrent e.reply)
   where
     by : (b : Bool) → (cond b s (after s e.core e.call (digest_of e.page) e.ticket)).shape ≡ s.shape

@@ -24,6 +24,7 @@ use Rattle.mon_types.specs.Owns.{os_word}
 use Rattle.mon_model.specs.InRange.{IsInRange}
 use Rattle.mon_model.proofs.InRange.{in_range}
 use Rattle.mon_types.specs.Modes.{own_slot}
+use Rattle.mon_model.specs.EveryStep.{own_field, deleted_field}
 use Rattle.mon_model.specs.Step.{reply_of, held_reply, after, effect, without_own_region, with_deleted, regions_of}
 use Rattle.mon_facts.specs.Facts.{FactsHold}
 use Rattle.mon_model.proofs.Bits.{none-has, with-keeps}
@@ -133,22 +134,15 @@ slot_later s t i e y a b f g h l = elim (cases_eq e i) [
     old : enclave_at t e ≡ enclave_at s e → loaded_at t e ≡ loaded_at s e → Stays s (enclave_at s e) (enclave_at t e) (loaded_at s e) (loaded_at t e)
     old a b = subst (λ z. Stays s (enclave_at s e) z (loaded_at s e) (loaded_at t e)) (sym a) (subst (λ z. Stays s (enclave_at s e) (enclave_at s e) (loaded_at s e) z) (sym b) (same_enclave s (enclave_at s e) (loaded_at s e) (ap (λ z. is_loading z.stage) (sym a) ∙ l)))
 
-deleted_tables : (s : State) (rs : List ℕ) (k : ℕ) → ((with_deleted s rs k).enclaves ≡ s.enclaves) × ((with_deleted s rs k).loaded ≡ s.loaded)
-deleted_tables s [] k = (refl, refl)
-deleted_tables s (r ∷ rs) k = deleted_tables (with_region s r (deleted (region_at s r) k)) rs k
-
 effect_later : (s : State) (core : ℕ) (call : Call) (digest : List ℕ) (k e : ℕ) → IsWhole s → FactsHold s → IsInRange s.shape call → LoadsNothing call → is_done (held_reply s core call) ≡ true → is_loading (enclave_at (effect s core call digest k) e).stage ≡ true → Later s (effect s core call digest k) e
-effect_later s core (calls.Block q) digest k e w facts a c d l = own_later s (effect s core (calls.Block q) digest k) (mode_of s core) q e refl (own_loaded (mode_of s core)) (λ i h m. facts.initialized i h (facts.inside core i h m)) l
-  where
-    own_loaded : (mode : Mode) → (without_own_region s mode q).loaded ≡ s.loaded
-    own_loaded modes.Os = refl
-    own_loaded (modes.Inside i h) = refl
+effect_later s core (calls.Block q) digest k e w facts a c d l = own_later s (effect s core (calls.Block q) digest k) (mode_of s core) q e refl (own_field (λ x. x.loaded) (λ t i x. refl) s (mode_of s core) q) (λ i h m. facts.initialized i h (facts.inside core i h m)) l
 effect_later s core (calls.Assign q to) digest k e w facts a c d l = assign_later (eqb to os_word) s _ _ q to e refl refl refl refl d l
 effect_later s core (calls.Create i base size) digest k e w facts a c d l =
     slot_later s (effect s core (calls.Create i base size) digest k) i e (created base size) (subst (λ z. i < z) (sym w.enclaves) a) (subst (λ z. i < z) (sym w.loaded) a) refl refl (λ xs none m. record { root = refl; items = none; regions = λ r. none-has r }) l
 effect_later s core (calls.Delete i) digest k e w facts a c d l =
-    let same = deleted_tables s (regions_of s i) k in
-    slot_later s (effect s core (calls.Delete i) digest k) i e empty_enclave (subst (λ z. i < z) (sym w.enclaves) a) (subst (λ z. i < z) (sym w.loaded) a) (ap (λ z. set z i empty_enclave) same.0) (ap (λ z. set z i []) same.1) (λ xs none m. absurd (cc)) l
+    let same_enclaves = deleted_field (λ x. x.enclaves) (λ t r x. refl) s (regions_of s i) k in
+    let same_items = deleted_field (λ x. x.loaded) (λ t r x. refl) s (regions_of s i) k in
+    slot_later s (effect s core (calls.Delete i) digest k) i e empty_enclave (subst (λ z. i < z) (sym w.enclaves) a) (subst (λ z. i < z) (sym w.loaded) a) (ap (λ z. set z i empty_enclave) same_enclaves) (ap (λ z. set z i []) same_items) (λ xs none m. absurd (cc)) l
 effect_later s core (calls.LoadTable i va level page) digest k e w facts a c d l = absurd c
 effect_later s core (calls.LoadPage i va page src perms) digest k e w facts a c d l = absurd c
 effect_later s core (calls.Reserve i va page perms) digest k e w facts a c d l = absurd c

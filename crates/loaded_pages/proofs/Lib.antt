@@ -9,3 +9,4 @@ pub mod Words
 pub mod Histories
 pub mod Pages
 pub mod Asking
+pub mod ReadPages

@@ -30,11 +30,11 @@ use Rattle.mon_facts.specs.Facts.{FactsHold, IsPlaced, IsRootPlaced, is_owned_by
 use Rattle.dram_map.specs.Addresses.{region_of_word}
 use Rattle.sv39_pte.specs.Tables.{pte_index, pointer_pte, leaf_pte}
 use Rattle.mon_enclaves.specs.FromItems.{table_1_for, table_0_for, leaf_for}
+use Rattle.mon_enclaves.specs.LoadReply.{is_load}
 use Rattle.mon_enclaves.proofs.Alike.{is_some-find}
 use Rattle.loaded_pages.specs.Content.{Content, zero_content, emptied, region_zeroed, page_put, content_put, place_in_root, place_in_table, content_by, content_after}
 use Rattle.mon_model.specs.RegionStep.{is_idle}
 use Rattle.loaded_pages.specs.Facts.{word_in, IsTable, TablesHold, PagesHold, ContentHolds}
-use Rattle.loaded_pages.specs.Laws.{IsLoad}
 use Rattle.loaded_pages.proofs.Cases.{clash, none_some, some_same}
 use Rattle.loaded_pages.proofs.Tables.{put, index_less, item, table_1_kept, table_0_kept, leaf_kept, same_1_leaf, same_0_leaf}
 use Rattle.loaded_pages.proofs.Changes.{paste_other, link_none, link_other, link_put, put_content, page_home, Within, link_within, paste_within}
@@ -231,7 +231,7 @@ pages_same m y items f g e t = record {
   fresh = λ p i b n l. e (512 * p + i) ∙ t.fresh p i b n l;
 }
 
-module _ (m : Shape) (x y : Enclave) (items : List Loaded) (f : Content) (h : is_loading x.stage ≡ true → PagesHold m x items f) (placed : is_loading x.stage ≡ true → All (IsPlaced m x) items) (root_pages : (root : ℕ) → x.root ≡ Some root → IsRootPlaced m x root) (rootless : x.root ≡ None → items ≡ []) (va page : ℕ) (small : va < 2 ^ 38) (same : y.regions ≡ x.regions) (next : y.next_page ≡ page + 1) where
+module _ (m : Shape) (x y : Enclave) (items : List Loaded) (f : Content) (h : is_loading x.stage ≡ true → PagesHold m x items f) (placed : is_loading x.stage ≡ true → All (IsPlaced m x) items) (rooted : (root : ℕ) → x.root ≡ Some root → IsRootPlaced m x root) (rootless : x.root ≡ None → items ≡ []) (va page : ℕ) (small : va < 2 ^ 38) (same : y.regions ≡ x.regions) (next : y.next_page ≡ page + 1) where
   abbrev table_at : Bool → Bool → Option ℕ
   table_at two one = cond two None (cond one (place_in_root x.root va) (place_in_table (table_1_for va items) 1 va))
 
@@ -257,13 +257,13 @@ module _ (m : Shape) (x y : Enclave) (items : List Loaded) (f : Content) (h : is
       by : (one : Bool) → cond one (not (has_table_1 va items)) (has_table_1 va items && not (has_table_0 va items)) ≡ true → Taken x page → has_bit x.regions (region_of_page m page) ≡ true → (r : ℕ) → x.root ≡ Some r
           → Grown m x y (items ++ item (cond one kinds.Table1 kinds.Table0) va page ∷ []) f (content_put (cond one (place_in_root x.root va) (place_in_table (table_1_for va items) 1 va)) (pointer_pte page) f)
       by true b tk mine r is =
-          let at = root_pages r is in
+          let at = rooted r is in
           subst (λ z. Grown m x y (items ++ item kinds.Table1 va page ∷ []) f (content_put (place_in_root z va) (pointer_pte page) f)) (sym is) (
             one_pages m x y items f (h tk.loading) (placed tk.loading) va page small tk.above same next r is (root ∙ is) (omega (arith, at.below, tk.above)) (none_found _ items b) mine,
             link_within m x r (pte_index 2 va) _ f f (at.in_set tk.loading) (index_less 2 va) (λ i. inl refl),
           )
       by false b tk mine r is =
-          let at = root_pages r is in
+          let at = rooted r is in
           let t1 = any_found (λ item. is_table_1 item.kind && is_there_for va item) items (and_left (has_table_1 va items) _ b) in
           subst (λ z. Grown m x y (items ++ item kinds.Table0 va page ∷ []) f (content_put (place_in_table z 1 va) (pointer_pte page) f)) (sym t1.1) (
             zero_pages m x y items f (h tk.loading) (placed tk.loading) va page small tk.above same next r is (root ∙ is) (omega (arith, at.below, tk.above)) t1.0 t1.1 (none_found _ items (and_right (has_table_1 va items) _ b)) mine,
@@ -276,7 +276,7 @@ module _ (m : Shape) (x y : Enclave) (items : List Loaded) (f : Content) (h : is
   leaf_grown kind perms fp off leaf part nextp fits place root within =
       let tk = taken x page nextp in
       let r = is_there x.root (and_right (in_range x va) _ fits) in
-      let at = root_pages r.0 r.1 in
+      let at = rooted r.0 r.1 in
       let both = and_left (has_table_1 va items && has_table_0 va items) _ place in
       let t0 = any_found (λ item. is_table_0 item.kind && is_there_for va item) items (and_right (has_table_1 va items) _ both) in
       subst (λ z. Grown m x y (items ++ item kind va page ∷ []) f (content_put (place_in_table z 0 va) (leaf_pte page perms) fp)) (sym t0.1) (
@@ -290,13 +290,13 @@ page_ok true true false d = clash d
 page_ok true false c d = clash d
 page_ok false b c d = clash d
 
-loads_or : (call : Call) → LoadsNothing call ⊎ IsLoad call
-loads_or (calls.LoadTable e va level page) = inr tt
-loads_or (calls.LoadPage e va page src perms) = inr tt
-loads_or (calls.Reserve e va page perms) = inr tt
+loads_or : (call : Call) → LoadsNothing call ⊎ (is_load call ≡ true)
+loads_or (calls.LoadTable e va level page) = inr refl
+loads_or (calls.LoadPage e va page src perms) = inr refl
+loads_or (calls.Reserve e va page perms) = inr refl
 loads_or _ = inl tt
 
-load_content : (s : State) (f : Content) (core : ℕ) (call : Call) (ws digest : List ℕ) (k : ℕ) → IsWhole s → FactsHold s → ContentHolds s f → IsLoad call → is_done (reply_of s core call) ≡ true
+load_content : (s : State) (f : Content) (core : ℕ) (call : Call) (ws digest : List ℕ) (k : ℕ) → IsWhole s → FactsHold s → ContentHolds s f → is_load call ≡ true → is_done (reply_of s core call) ≡ true
     → ContentHolds (effect s core call digest k) (content_by s call ws f)
 unfolding region_zeroed
 load_content s f core (calls.LoadTable e va level page) ws digest k w facts h l d =
@@ -327,7 +327,7 @@ load_content s f core (calls.Reserve e va page perms) ws digest k w facts h l d 
     let grown = leaf_grown s.shape x (with_reserved x va page perms) items f (h.pages e) (facts.placed e) (facts.root_pages e) (facts.rootless e) va page range.3 refl refl kinds.Reserved perms f
     (λ q j ne b. refl) (refl, refl, refl) (λ at. refl) (and_left (is_next_page x page) _ takes) (and_right (reserves_page s.shape x page) _ first) (and_right (reserves_page s.shape x page && leaf_fits x va) _ b) refl (λ i. inl refl) in
     slot_content s f _ e _ _ facts (subst (λ z. e < z) (sym w.enclaves) range.0) (subst (λ z. e < z) (sym w.loaded) range.0) h grown.1 grown.0
-load_content s f core _ ws digest k w facts h l d = absurd l
+load_content s f core _ ws digest k w facts h l d = absurd (cc)
 
 -- ---- every call
 
@@ -354,7 +354,7 @@ content_stays s f core call ws digest k w facts next h = elim (loads_or call) [
     nothing true i n = nothing_loaded s call ws f i n
     nothing false i n = sym (refused_same s.shape f i)
 
-    by : IsLoad call → (b : Bool) → (b ≡ true → is_done (reply_of s core call) ≡ true) → ContentHolds (cond b (effect s core call digest k) s) (cond b (content_by s call ws f) f)
+    by : is_load call ≡ true → (b : Bool) → (b ≡ true → is_done (reply_of s core call) ≡ true) → ContentHolds (cond b (effect s core call digest k) s) (cond b (content_by s call ws f) f)
     by l true d = load_content s f core call ws digest k w facts h l (d refl)
     by l false d = h
 

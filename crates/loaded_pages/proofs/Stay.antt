@@ -12,10 +12,10 @@ use Rattle.mon_types.specs.declared.enclave.LoadedKind.TheVariants as kinds
 use Rattle.mon_types.specs.declared.call.Call.{Call}
 use Rattle.mon_model.specs.State.{State, IsWhole, region_at, enclave_at, loaded_at}
 use Rattle.mon_model.specs.RegionCalls.{is_loading}
-use Rattle.mon_model.specs.Loading.{is_there_for, is_table_1, is_table_0}
+use Rattle.mon_model.specs.Loading.{is_there_for, is_table_1, is_table_0, is_reserved}
 use Rattle.mon_model.specs.EveryStep.{after_shape}
 use Rattle.mon_model.specs.Step.{reply_of, after}
-use Rattle.mon_facts.specs.Facts.{IsPlaced, is_reserved, FactsHold}
+use Rattle.mon_facts.specs.Facts.{IsPlaced, FactsHold}
 use Rattle.dram_map.specs.Addresses.{region_of_word}
 use Rattle.sv39_pte.specs.Tables.{pte_index}
 use Rattle.loaded_pages.specs.Content.{Content, region_zeroed}

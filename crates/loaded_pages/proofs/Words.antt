@@ -18,16 +18,16 @@ use Rattle.mon_model.proofs.InRange.{in_range as in_range_of, not_refused}
 use Rattle.mon_model.proofs.Carried.{carried}
 use Rattle.mon_model.specs.Step.{reply_of, held_reply}
 use Rattle.mon_facts.specs.Tables.{AreTables}
-use Rattle.sv39_pte.specs.Tables.{pte_index, pte_place, leads_to_table, page_led_to, path_by}
+use Rattle.sv39_pte.specs.Tables.{pte_index, pte_place, leads_to_table, page_led_to, path_by, path_below, last_place}
 use Rattle.sv39_pte.proofs.Fields.{pointer_leads}
 use Rattle.mon_enclaves.specs.ByWords.{table_path, leaf_path, words_fit, table_reply, page_reply, reserved_reply}
 use Rattle.mon_enclaves.specs.FromItems.{table_1_for, table_0_for, leaf_for, pte_of_table, pte_of_leaf, below, table_1_words, table_0_words, table_words, leaf_words}
-use Rattle.mon_enclaves.specs.LoadReply.{words_reply}
+use Rattle.mon_enclaves.specs.LoadReply.{is_load, words_reply}
 use Rattle.mon_enclaves.proofs.Alike.{table_reply-words, page_reply-words, reserved_reply-words}
 use Rattle.loaded_pages.specs.Content.{Content, place_in_root, place_in_table, loaded_place}
-use Rattle.loaded_pages.specs.Path.{words_below, places_below, call_places, call_words, last_place}
+use Rattle.loaded_pages.specs.Path.{words_below, call_places, call_words}
 use Rattle.loaded_pages.specs.Facts.{word_in, TablesHold, ContentHolds}
-use Rattle.loaded_pages.specs.Laws.{IsLoad, PathAgrees}
+use Rattle.loaded_pages.specs.Laws.{PathAgrees}
 use Rattle.loaded_pages.proofs.Cases.{clash, none_some, some_same}
 use Rattle.loaded_pages.proofs.Loads.{and_left, and_right, done_true, is_there, any_found, taken, page_ok}
 
@@ -196,11 +196,11 @@ module _ (s : State) (f : Content) (core : ℕ) (t : AreTables s) (h : ContentHo
       let words = leaf_by_items e va small tk.loading (and_right (reserves_page s.shape x page) (leaf_fits x va) fits) in
       ap (reserved_reply s.shape x va page) words.1 ∙ reserved_reply-words s.shape x (loaded_at s e) va words.0 page t.machine (t.items e).pages
 
-  pub words_decide : (call : Call) → IsLoad call → early s.shape (mode_of s core) call ≡ None → words_reply s call (call_words s f call) ≡ held_reply s core call
+  pub words_decide : (call : Call) → is_load call ≡ true → early s.shape (mode_of s core) call ≡ None → words_reply s call (call_words s f call) ≡ held_reply s core call
   words_decide (calls.LoadTable e va level page) l none = table_by e va level page (not_refused s.shape (mode_of s core) (calls.LoadTable e va level page) none).3 _ refl
   words_decide (calls.LoadPage e va page src perms) l none = page_decided e va page src perms (not_refused s.shape (mode_of s core) (calls.LoadPage e va page src perms) none).4 _ refl
   words_decide (calls.Reserve e va page perms) l none = reserve_decided e va page perms (not_refused s.shape (mode_of s core) (calls.Reserve e va page perms) none).3 _ refl
-  words_decide _ l none = absurd l
+  words_decide _ l none = absurd (cc)
 
 -- ---- the place of the pte
 
@@ -210,10 +210,10 @@ module _ (s : State) (f : Content) (t : AreTables s) (h : ContentHolds s f) wher
       → (takes_page s.shape (enclave_at s e) page && cond two (not (has_root (enclave_at s e))) (in_range (enclave_at s e) va && has_root (enclave_at s e))
       && (two || cond one (not (has_table_1 va (loaded_at s e))) (has_table_1 va (loaded_at s e) && not (has_table_0 va (loaded_at s e))))) ≡ true
       → cond two None (cond one (place_in_root (enclave_at s e).root va) (place_in_table (table_1_for va (loaded_at s e)) 1 va))
-      ≡ last_place (places_below s.shape f va (cond two 0 (cond one 1 2)) (enclave_at s e).root)
+      ≡ last_place (path_below s.shape f va (cond two 0 (cond one 1 2)) (enclave_at s e).root)
   table_place e va page small true one ok = by (enclave_at s e).root
     where
-      by : (root : Option ℕ) → None ≡ last_place (places_below s.shape f va 0 root)
+      by : (root : Option ℕ) → None ≡ last_place (path_below s.shape f va 0 root)
       by None = refl
       by (Some root) = refl
   table_place e va page small false one ok =
@@ -225,16 +225,16 @@ module _ (s : State) (f : Content) (t : AreTables s) (h : ContentHolds s f) wher
     where
       by : (one : Bool) → cond one (not (has_table_1 va (loaded_at s e))) (has_table_1 va (loaded_at s e) && not (has_table_0 va (loaded_at s e))) ≡ true
           → (root : ℕ) → (enclave_at s e).root ≡ Some root → TablesHold (loaded_at s e) root (word_in f)
-          → cond one (place_in_root (enclave_at s e).root va) (place_in_table (table_1_for va (loaded_at s e)) 1 va) ≡ last_place (places_below s.shape f va (cond one 1 2) (enclave_at s e).root)
+          → cond one (place_in_root (enclave_at s e).root va) (place_in_table (table_1_for va (loaded_at s e)) 1 va) ≡ last_place (path_below s.shape f va (cond one 1 2) (enclave_at s e).root)
       by true fits root is tables =
-          ap (λ z. place_in_root z va) is ∙ sym (ap (λ z. last_place (places_below s.shape f va 1 z)) is ∙ place_1 s.shape t.machine va f (loaded_at s e) (t.items e).pages root tables small)
+          ap (λ z. place_in_root z va) is ∙ sym (ap (λ z. last_place (path_below s.shape f va 1 z)) is ∙ place_1 s.shape t.machine va f (loaded_at s e) (t.items e).pages root tables small)
       by false fits root is tables =
           let t1 = any_found (λ item. is_table_1 item.kind && is_there_for va item) (loaded_at s e) (and_left (has_table_1 va (loaded_at s e)) _ fits) in
-          ap (λ z. place_in_table z 1 va) t1.1 ∙ sym (ap (λ z. last_place (places_below s.shape f va 2 z)) is ∙ place_0 s.shape t.machine va f (loaded_at s e) (t.items e).pages root tables small t1.0 t1.1)
+          ap (λ z. place_in_table z 1 va) t1.1 ∙ sym (ap (λ z. last_place (path_below s.shape f va 2 z)) is ∙ place_0 s.shape t.machine va f (loaded_at s e) (t.items e).pages root tables small t1.0 t1.1)
 
   -- a page or a reserved page
   leaf_place : (e va : ℕ) → va < 2 ^ 38 → is_loading (enclave_at s e).stage ≡ true → leaf_fits (enclave_at s e) va ≡ true → has_place_for_leaf (loaded_at s e) va ≡ true
-      → place_in_table (table_0_for va (loaded_at s e)) 0 va ≡ last_place (places_below s.shape f va leaf_path (enclave_at s e).root)
+      → place_in_table (table_0_for va (loaded_at s e)) 0 va ≡ last_place (path_below s.shape f va leaf_path (enclave_at s e).root)
   leaf_place e va small load fits place =
       let x : Enclave = enclave_at s e in
       let its : List Loaded = loaded_at s e in
@@ -243,9 +243,9 @@ module _ (s : State) (f : Content) (t : AreTables s) (h : ContentHolds s f) wher
       let t1 = any_found (λ item. is_table_1 item.kind && is_there_for va item) its (and_left (has_table_1 va its) (has_table_0 va its) there) in
       let t0 = any_found (λ item. is_table_0 item.kind && is_there_for va item) its (and_right (has_table_1 va its) (has_table_0 va its) there) in
       ap (λ z. place_in_table z 0 va) t0.1
-      ∙ sym (ap (λ z. last_place (places_below s.shape f va leaf_path z)) root.1 ∙ place_leaf s.shape t.machine va f its (t.items e).pages root.0 ((h.pages e load).tables root.0 root.1) small t1.0 t0.0 t1.1 t0.1)
+      ∙ sym (ap (λ z. last_place (path_below s.shape f va leaf_path z)) root.1 ∙ place_leaf s.shape t.machine va f its (t.items e).pages root.0 ((h.pages e load).tables root.0 root.1) small t1.0 t0.0 t1.1 t0.1)
 
-  pub goes_last : (core : ℕ) (call : Call) → IsLoad call → is_done (reply_of s core call) ≡ true → loaded_place s call ≡ last_place (call_places s f call)
+  pub goes_last : (core : ℕ) (call : Call) → is_load call ≡ true → is_done (reply_of s core call) ≡ true → loaded_place s call ≡ last_place (call_places s f call)
   goes_last core (calls.LoadTable e va level page) l d =
       let c = carried s core (calls.LoadTable e va level page) d in
       table_place e va page (in_range_of s.shape (calls.LoadTable e va level page) c.value).3 (eqb level 2) (eqb level 1) (done_true _ c.held)
@@ -261,4 +261,4 @@ module _ (s : State) (f : Content) (t : AreTables s) (h : ContentHolds s f) wher
       let first = and_left (reserves_page s.shape x page && leaf_fits x va) (has_place_for_leaf (loaded_at s e) va) (done_true _ c.held) in
       let tk = taken x page (and_left (is_next_page x page) _ (and_left (reserves_page s.shape x page) (leaf_fits x va) first)) in
       leaf_place e va (in_range_of s.shape (calls.Reserve e va page perms) c.value).3 tk.loading (and_right (reserves_page s.shape x page) (leaf_fits x va) first) (and_right (reserves_page s.shape x page && leaf_fits x va) (has_place_for_leaf (loaded_at s e) va) (done_true _ c.held))
-  goes_last core _ l d = absurd l
+  goes_last core _ l d = absurd (cc)

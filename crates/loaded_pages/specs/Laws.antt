@@ -1,6 +1,6 @@
 -- Laws of the content: it agrees with the loaded items in every state that a history reaches, so a call that loads is
 -- decided alike by the words on its path and by the items. This project's own.
-use Rattle.std.specs.Prelude.{◌≡◌, ℕ, ◌+◌, ◌<◌, ◌^◌, ◌&&◌, true, false, List, [], ◌∷◌, ◌++◌, length, Some, None}
+use Rattle.std.specs.Prelude.{◌≡◌, ℕ, ◌+◌, ◌<◌, ◌^◌, ◌&&◌, true, false, List, [], ◌∷◌, ◌++◌, length, slice_get, Some, None}
 use Rattle.mon_types.specs.Shape.{Shape, is_shape}
 use Rattle.mon_types.specs.Replies.{is_done}
 use Rattle.mon_types.specs.declared.call.Call.{Call}
@@ -12,17 +12,18 @@ use Rattle.mon_model.specs.Early.{early}
 use Rattle.mon_model.specs.Step.{monitor_step, reply_of, held_reply}
 use Rattle.mon_facts.specs.Tables.{AreTables}
 use Rattle.mon_facts.specs.Facts.{FactsHold}
+use Rattle.hist.specs.declared.event.Entry.{Entry}
 use Rattle.hist.specs.declared.event.Event.{Event}
-use Rattle.hist.specs.History.{state_after}
+use Rattle.hist.specs.History.{history, state_after}
 use Rattle.hist.specs.Legal.{Legal}
 use Rattle.mon_types.specs.Sizes.{page_words}
 use Rattle.mon_enclaves.specs.FromItems.{table_words, leaf_words}
-use Rattle.sv39_pte.specs.Tables.{leads_to_table}
+use Rattle.sv39_pte.specs.Tables.{leads_to_table, last_place}
 use Rattle.mon_enclaves.specs.ByWords.{words_fit}
-use Rattle.mon_enclaves.specs.LoadReply.{path_length, words_reply}
+use Rattle.mon_enclaves.specs.LoadReply.{is_load, path_length, words_reply}
 use Rattle.loaded_pages.specs.Content.{Content, zero_content, loaded_place, content_after}
-use Rattle.loaded_pages.specs.History.{content_at, page_words_of}
-use Rattle.loaded_pages.specs.Path.{words_below, call_places, call_words, last_place}
+use Rattle.loaded_pages.specs.History.{entry_words, content_at, page_words_of, loaded_page, HaveReadPages}
+use Rattle.loaded_pages.specs.Path.{words_below, call_places, call_words}
 use Rattle.loaded_pages.specs.Facts.{ContentHolds}
 
 -- ---- one call
@@ -69,17 +70,10 @@ PathsAgree =
     → is_loading (enclave_at s e).stage ≡ true → (enclave_at s e).root ≡ Some root → va < 2 ^ 38
     → PathAgrees s.shape content (loaded_at s e) root va
 
--- a call that loads
-abbrev pub IsLoad : Call → Type 0
-IsLoad (calls.LoadTable e va level page) = Unit {0}
-IsLoad (calls.LoadPage e va page src perms) = Unit {0}
-IsLoad (calls.Reserve e va page perms) = Unit {0}
-IsLoad _ = ⊥
-
--- once it is not refused early, it is decided by the words as by the items
+-- once a call that loads is not refused early, it is decided by the words as by the items
 abbrev pub WordsDecide : Type 0
 WordsDecide =
-    (s : State) (content : Content) (core : ℕ) (call : Call) → AreTables s → ContentHolds s content → IsLoad call
+    (s : State) (content : Content) (core : ℕ) (call : Call) → AreTables s → ContentHolds s content → is_load call ≡ true
     → early s.shape (mode_of s core) call ≡ None
     → words_reply s call (call_words s content call) ≡ held_reply s core call
 
@@ -87,7 +81,7 @@ WordsDecide =
 abbrev pub WordsDecideInHistory : Type 0
 WordsDecideInHistory =
     (shape : Shape) (logs : List (List Event)) (answers : List (List ℕ)) (k core : ℕ) (call : Call)
-    → is_shape shape ≡ true → Legal shape logs → IsLoad call
+    → is_shape shape ≡ true → Legal shape logs → is_load call ≡ true
     → let s = state_after shape logs k in
     early s.shape (mode_of s core) call ≡ None
     → words_reply s call (call_words s (content_at shape logs answers k) call) ≡ held_reply s core call
@@ -95,7 +89,7 @@ WordsDecideInHistory =
 -- where it is Ok, its pte goes to the last place on its path
 abbrev pub PteGoesLast : Type 0
 PteGoesLast =
-    (s : State) (content : Content) (core : ℕ) (call : Call) → AreTables s → ContentHolds s content → IsLoad call
+    (s : State) (content : Content) (core : ℕ) (call : Call) → AreTables s → ContentHolds s content → is_load call ≡ true
     → is_done (reply_of s core call) ≡ true → loaded_place s call ≡ last_place (call_places s content call)
 
 -- ---- word by word
@@ -103,13 +97,13 @@ PteGoesLast =
 -- a refusal before any word is read is the reply
 abbrev pub RefusedFirst : Type 0
 RefusedFirst =
-    (s : State) (core : ℕ) (call : Call) → IsLoad call → is_done (words_reply s call []) ≡ false
+    (s : State) (core : ℕ) (call : Call) → is_load call ≡ true → is_done (words_reply s call []) ≡ false
     → words_reply s call [] ≡ held_reply s core call
 
 -- by the words that were read so far it is Ok exactly where it is so by none, and the last of them fits
 abbrev pub OkByWords : Type 0
 OkByWords =
-    (s : State) (call : Call) (words : List ℕ) → IsLoad call
+    (s : State) (call : Call) (words : List ℕ) → is_load call ≡ true
     → is_done (words_reply s call words)
     ≡ (is_done (words_reply s call []) && words_fit s.shape (path_length call) words)
 
@@ -129,3 +123,14 @@ PageHoldsWords =
     → let call = calls.LoadPage e va page src perms in
     is_done (reply_of s core call) ≡ true
     → page_words_of (content_after s (reply_of s core call) call words content) page ≡ words
+
+-- In a legal history whose entries have read their pages, `loaded_page` after an Ok load_page into slot e is exactly the
+-- words that its entry read, 512 of its core's answers.
+abbrev pub LoadedPageIsRead : Type 0
+LoadedPageIsRead =
+    (shape : Shape) (logs : List (List Event)) (answers : List (List ℕ)) (k e va page src perms : ℕ) (entry : Entry)
+    → is_shape shape ≡ true → Legal shape logs → HaveReadPages answers (history logs)
+    → slice_get (history logs) k ≡ Some entry → entry.call ≡ calls.LoadPage e va page src perms
+    → is_done entry.reply ≡ true
+    → let words = entry_words answers entry in
+    (loaded_page shape logs answers (k + 1) e page ≡ Some words) × (length words ≡ page_words)

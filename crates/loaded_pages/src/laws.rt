@@ -1,7 +1,7 @@
 //! The laws: what holds of the content, after each call and each history, and what follows for the
 //! words on an address's path.
 
-ghost use Rattle.loaded_pages.specs.Laws.{StartContentHolds, ContentStays, HistoryReaches, PathsAgree, WordsDecide, WordsDecideInHistory, PteGoesLast, RefusedFirst, OkByWords, FitsWhereItLeads, PageHoldsWords};
+ghost use Rattle.loaded_pages.specs.Laws.{StartContentHolds, ContentStays, HistoryReaches, PathsAgree, WordsDecide, WordsDecideInHistory, PteGoesLast, RefusedFirst, OkByWords, FitsWhereItLeads, PageHoldsWords, LoadedPageIsRead};
 
 /// Idle regions hold zeros, and the tables of each Loading enclave the ptes of its items: at the start,
 /// and after each call, whatever words a load_page reads.
@@ -38,7 +38,9 @@ pub fn asks_word_by_word()
     ensures before { FitsWhereItLeads }
 {}
 
-/// After an Ok of load_page its page holds the words that were read.
+/// After an Ok of load_page its page holds the words that were read: in any state, and in any legal history
+/// whose entries have read their pages.
 pub fn page_holds_words()
-    ensures { PageHoldsWords }
+    ensures state { PageHoldsWords }
+    ensures history { LoadedPageIsRead }
 {}

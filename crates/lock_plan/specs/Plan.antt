@@ -1,13 +1,15 @@
--- What a call tries, as far as the records that it holds tell it. This project's own.
+-- Held records by their places, and what a call tries, as far as they tell it. This project's own.
 use Rattle.std.specs.Prelude.{ℕ, ◌+◌, List, Option, slice_get}
 use Rattle.std.specs.List.{slice_index_or}
 use Rattle.arrayvec.specs.ArrayVec.{array_vec_len}
 use Rattle.mon_types.specs.Shape.{Shape}
 use Rattle.mon_types.specs.Enclaves.{empty_enclave}
+use Rattle.mon_types.specs.Threads.{empty_thread}
 use Rattle.mon_types.specs.declared.region.Region.{Region}
 use Rattle.mon_types.specs.declared.region.Region.TheVariants as regions
 use Rattle.mon_types.specs.declared.enclave.Enclave.{Enclave}
 use Rattle.mon_types.specs.declared.thread.Mode.{Mode}
+use Rattle.mon_types.specs.declared.thread.Thread.{Thread}
 use Rattle.mon_types.specs.declared.call.Call.{Call}
 use Rattle.mon_types.specs.declared.object.ObjectId.{ObjectId}
 use Rattle.mon_model.specs.Tries.{plan}
@@ -24,6 +26,14 @@ first_region h = (slice_index_or h.regions.items 0 (0, regions.Free)).1
 -- the first enclave that is held, an empty slot where none is
 abbrev pub first_enclave : Held → Enclave
 first_enclave h = (slice_index_or h.enclaves.items 0 (0, empty_enclave)).1
+
+-- the second enclave that is held, an empty slot where there is none
+abbrev pub second_enclave : Held → Enclave
+second_enclave h = (slice_index_or h.enclaves.items 1 (0, empty_enclave)).1
+
+-- the first thread that is held, an empty slot where none is
+abbrev pub first_thread : Held → Thread
+first_thread h = (slice_index_or h.threads.items 0 (0, empty_thread)).1
 
 -- The objects that the call tries, in order, as far as these records tell them: the first region that is held tells
 -- what a free tries, the first enclave what a delete does. Before it is held only the first object counts.

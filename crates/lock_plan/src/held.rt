@@ -1,7 +1,7 @@
 //! What a call holds so far.
 
 ghost use Rattle.std.specs.Prelude.{◌≡◌};
-ghost use Rattle.lock_plan.specs.Plan.{held_count};
+ghost use Rattle.lock_plan.specs.Plan.{held_count, first_region, first_enclave, second_enclave, first_thread};
 ghost use Rattle.lock_plan.specs.Records.{nothing_held};
 
 use arrayvec::ArrayVec;
@@ -45,6 +45,46 @@ impl Held {
         ensures { result ≡ held_count self.now }
     {
         self.enclaves.len() + self.threads.len() + self.regions.len() + self.cells.len()
+    }
+
+    /// The first region that is held, Free where none is.
+    pub fn first_region(&self) -> Region
+        ensures { result ≡ first_region self.now }
+    {
+        match self.regions.first() {
+            Some((_, region)) => *region,
+            None => Region::Free,
+        }
+    }
+
+    /// The first enclave that is held, an empty slot where none is.
+    pub fn first_enclave(&self) -> Enclave
+        ensures { result ≡ first_enclave self.now }
+    {
+        match self.enclaves.first() {
+            Some((_, enclave)) => *enclave,
+            None => Enclave::empty(),
+        }
+    }
+
+    /// The second enclave that is held, an empty slot where there is none.
+    pub fn second_enclave(&self) -> Enclave
+        ensures { result ≡ second_enclave self.now }
+    {
+        match self.enclaves.get(1) {
+            Some((_, enclave)) => *enclave,
+            None => Enclave::empty(),
+        }
+    }
+
+    /// The first thread that is held, an empty slot where none is.
+    pub fn first_thread(&self) -> Thread
+        ensures { result ≡ first_thread self.now }
+    {
+        match self.threads.first() {
+            Some((_, thread)) => *thread,
+            None => Thread::empty(),
+        }
     }
 }
 

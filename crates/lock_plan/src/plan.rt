@@ -89,16 +89,6 @@ fn of_send(own: u8, to: u64, n: usize) -> Option<ObjectId>
     }
 }
 
-/// The first region that is held, Free where none is.
-fn region_held(held: &Held) -> Region
-    ensures { result ≡ first_region held.now }
-{
-    match held.regions.first() {
-        Some((_, region)) => *region,
-        None => Region::Free,
-    }
-}
-
 /// The region set of the first enclave that is held, empty where none is.
 fn set_held(held: &Held) -> u64
     ensures { result ≡ (first_enclave held.now).regions }
@@ -128,7 +118,7 @@ fn of_free(cores: u8, r: u64, held: &Held, n: usize) -> Option<ObjectId>
     if n == 0 {
         return Some(region(r));
     }
-    match region_held(held) {
+    match held.first_region() {
         Region::Blocked { .. } => nth_cell(cores, n - 1),
         _ => None,
     }

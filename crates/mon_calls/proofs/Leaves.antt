@@ -33,14 +33,15 @@ use Rattle.mon_model.specs.EnclaveCalls.{created, with_table, with_page, with_re
 use Rattle.mon_model.specs.ThreadCalls.{ready, with_thread_loaded, without_thread, running, left, left_saving, restored}
 use Rattle.mon_model.specs.MailCalls.{with_mailbox, sent}
 use Rattle.mon_model.specs.Tries.{own_enclave, free_tries, held_tries, tries}
+use Rattle.mon_model.specs.EveryStep.{deleted_field}
 use Rattle.mon_model.specs.Step.{effect, reply_of, without_own_region, with_deleted, regions_of}
 use Rattle.mon_regions.specs.Named.{given_to}
 use Rattle.lock_plan.specs.EveryPlan.{tries_held}
 use Rattle.lock_plan.specs.declared.held.Held.{Held}
 use Rattle.lock_plan.specs.Objects.{IsCaller}
-use Rattle.lock_plan.specs.Plan.{first_region, first_enclave}
+use Rattle.lock_plan.specs.Plan.{first_region, first_enclave, second_enclave}
 use Rattle.lock_plan.specs.Records.{records_of}
-use Rattle.mon_calls.specs.OnHeld.{second_enclave, put_enclave, put_second, put_thread, put_region, put_cell}
+use Rattle.mon_calls.specs.OnHeld.{put_enclave, put_second, put_thread, put_region, put_cell}
 use Rattle.mon_calls.specs.Left.{delete_regions, left_by}
 use Rattle.mon_calls.specs.Decided.{AreLeft}
 use Rattle.mon_calls.proofs.Said.{own_said, shut, two_slots}
@@ -157,10 +158,6 @@ is_deleted (q ∷ qs) s k r n e l h =
       ]
     ]
 
-enclaves_stay : (qs : List ℕ) (s : State) (k : ℕ) → (with_deleted s qs k).enclaves ≡ s.enclaves
-enclaves_stay [] s k = refl
-enclaves_stay (q ∷ qs) s k = enclaves_stay qs (with_region s q (deleted (region_at s q) k)) k
-
 -- the records of regions
 regions_left : (s t : State) (k : ℕ) (qs : List ℕ) → ((r : ℕ) → In r qs → region_at t r ≡ deleted (region_at s r) k)
     → delete_regions (records_of s (map (λ r. objects.Region r) qs)) k ≡ records_of t (map (λ r. objects.Region r) qs)
@@ -198,7 +195,7 @@ delete_left : (s : State) (o k : ℕ) → IsWhole s → o < 8
     ≡ records_of (with_slot (with_deleted s (regions_of s o) k) o empty_enclave []) (objects.Enclave o ∷ map (λ r. objects.Region r) (regions_of s o))
 delete_left s o k w l =
     let t = with_slot (with_deleted s (regions_of s o) k) o empty_enclave [] in
-    let slot : enclave_at t o ≡ empty_enclave = set_there (with_deleted s (regions_of s o) k).enclaves o 8 empty_enclave empty_enclave (ap (λ xs. length xs) (enclaves_stay (regions_of s o) s k) ∙ w.enclaves) l in
+    let slot : enclave_at t o ≡ empty_enclave = set_there (with_deleted s (regions_of s o) k).enclaves o 8 empty_enclave empty_enclave (ap (λ xs. length xs) (deleted_field (λ x. x.enclaves) (λ t r x. refl) s (regions_of s o) k) ∙ w.enclaves) l in
     rw slot (ap (λ (x : Held). record x { enclaves = record { items = (o, empty_enclave) ∷ x.enclaves.items } })
     (regions_left s t k (regions_of s o) (λ r m. is_deleted (regions_of s o) s k r s.shape.regions w.regions (members_below (enclave_at s o).regions s.shape.regions r m) m)))
 

@@ -25,9 +25,9 @@ use Rattle.mon_enclaves.specs.ByWords.{table_reply, page_reply, reserved_reply}
 use Rattle.mon_enclaves.proofs.Alike.{table_reply-words, page_reply-words, reserved_reply-words}
 use Rattle.lock_plan.specs.EveryPlan.{tries_held}
 use Rattle.lock_plan.specs.declared.held.Held.{Held}
-use Rattle.lock_plan.specs.Plan.{first_region, first_enclave}
+use Rattle.lock_plan.specs.Plan.{first_region, first_enclave, second_enclave}
 use Rattle.lock_plan.specs.Records.{records_of}
-use Rattle.mon_calls.specs.OnHeld.{second_enclave, tickets_held}
+use Rattle.mon_calls.specs.OnHeld.{tickets_held}
 use Rattle.mon_calls.specs.Replied.{replied}
 use Rattle.mon_calls.specs.Decided.{ArePathWords, IsReply}
 use Rattle.mon_calls.specs.OnCore.{core_change, IsChange}

@@ -16,8 +16,8 @@ use Rattle.mon_model.specs.ThreadCalls.{ready, with_thread_loaded, without_threa
 use Rattle.mon_model.specs.MailCalls.{with_mailbox, sent}
 use Rattle.mon_regions.specs.Named.{given_to}
 use Rattle.lock_plan.specs.declared.held.Held.{Held}
-use Rattle.lock_plan.specs.Plan.{first_region, first_enclave}
-use Rattle.mon_calls.specs.OnHeld.{second_enclave, first_thread, assignee_held, put_enclave, put_second, put_thread, put_region, put_cell}
+use Rattle.lock_plan.specs.Plan.{first_region, first_enclave, second_enclave, first_thread}
+use Rattle.mon_calls.specs.OnHeld.{assignee_held, put_enclave, put_second, put_thread, put_region, put_cell}
 
 -- each region that is held is deleted
 abbrev pub delete_regions : Held → ℕ → Held

@@ -9,9 +9,8 @@ use Rattle.core_context.specs.declared.after.After.{After}
 use Rattle.core_context.specs.declared.after.After.TheVariants as afters
 use Rattle.core_context.specs.Changes.{entering, ok_change}
 use Rattle.lock_plan.specs.declared.held.Held.{Held}
-use Rattle.lock_plan.specs.Plan.{first_enclave}
+use Rattle.lock_plan.specs.Plan.{first_enclave, first_thread}
 use Rattle.lock_plan.specs.Records.{records_of}
-use Rattle.mon_calls.specs.OnHeld.{first_thread}
 
 -- what Ok does to the core, where the records of all that the call tries are held
 abbrev pub core_change : Call → Held → After

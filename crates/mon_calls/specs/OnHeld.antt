@@ -1,24 +1,13 @@
 -- Held records by their places, and with other records in these places. This project's own.
 use Rattle.std.specs.Prelude.{ℕ, ◌==◌, nat_lt, if◌then◌else◌, List, [], ◌∷◌, map, Option, Some, None}
-use Rattle.std.specs.List.{slice_index_or}
 use Rattle.mon_types.specs.Owns.{os_word}
-use Rattle.mon_types.specs.Enclaves.{empty_enclave}
-use Rattle.mon_types.specs.Threads.{empty_thread}
 use Rattle.mon_types.specs.declared.region.Region.{Region}
 use Rattle.mon_types.specs.declared.enclave.Enclave.{Enclave}
 use Rattle.mon_types.specs.declared.thread.Thread.{Thread}
 use Rattle.lock_plan.specs.declared.held.Held.{Held}
-use Rattle.lock_plan.specs.Plan.{first_enclave}
+use Rattle.lock_plan.specs.Plan.{first_enclave, second_enclave}
 
 -- ---- the records
-
--- the second enclave that is held, an empty slot where there is none
-abbrev pub second_enclave : Held → Enclave
-second_enclave h = (slice_index_or h.enclaves.items 1 (0, empty_enclave)).1
-
--- the first thread that is held, an empty slot where there is none
-abbrev pub first_thread : Held → Thread
-first_thread h = (slice_index_or h.threads.items 0 (0, empty_thread)).1
 
 -- the flush tickets of all cells that are held
 abbrev pub tickets_held : Held → List ℕ

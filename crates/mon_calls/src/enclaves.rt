@@ -7,7 +7,6 @@ ghost use Rattle.mon_enclaves.specs.Named.{IsCreate, IsLoadTable, IsLoadPage, Is
 ghost use Rattle.mon_calls.specs.Left.{delete_regions, left_by};
 
 use crate::put::set_enclave;
-use crate::read::enclave_held;
 use lock_plan::Held;
 use mon_enclaves::{
     after_create, after_delete, after_init, after_page, after_reserve, after_table,
@@ -19,7 +18,7 @@ pub fn apply_create(call: &Call, ticket: u32, held: &mut Held)
     requires { IsCreate call.now }
     ensures { (mode : Mode) (digest : List ℕ) → held.new ≡ left_by mode call.now digest ticket held.old }
 {
-    let mut enclave = enclave_held(held);
+    let mut enclave = held.first_enclave();
     after_create(ticket, call, &mut enclave);
     set_enclave(held, enclave);
 }
@@ -29,7 +28,7 @@ pub fn apply_table(call: &Call, ticket: u32, held: &mut Held)
     requires { IsLoadTable call.now }
     ensures { (mode : Mode) (digest : List ℕ) → held.new ≡ left_by mode call.now digest ticket held.old }
 {
-    let mut enclave = enclave_held(held);
+    let mut enclave = held.first_enclave();
     after_table(ticket, call, &mut enclave);
     set_enclave(held, enclave);
 }
@@ -39,7 +38,7 @@ pub fn apply_page(call: &Call, digest: &[u8; 32], ticket: u32, held: &mut Held)
     requires { IsLoadPage call.now }
     ensures { (mode : Mode) → held.new ≡ left_by mode call.now digest.now ticket held.old }
 {
-    let mut enclave = enclave_held(held);
+    let mut enclave = held.first_enclave();
     after_page(ticket, call, &mut enclave, digest);
     set_enclave(held, enclave);
 }
@@ -49,7 +48,7 @@ pub fn apply_reserve(call: &Call, ticket: u32, held: &mut Held)
     requires { IsReserve call.now }
     ensures { (mode : Mode) (digest : List ℕ) → held.new ≡ left_by mode call.now digest ticket held.old }
 {
-    let mut enclave = enclave_held(held);
+    let mut enclave = held.first_enclave();
     after_reserve(ticket, call, &mut enclave);
     set_enclave(held, enclave);
 }
@@ -59,7 +58,7 @@ pub fn apply_init(call: &Call, ticket: u32, e: u64, held: &mut Held)
     requires { call.now ≡ Call.Init e }
     ensures { (mode : Mode) (digest : List ℕ) → held.new ≡ left_by mode call.now digest ticket held.old }
 {
-    let mut enclave = enclave_held(held);
+    let mut enclave = held.first_enclave();
     after_init(ticket, call, &mut enclave);
     set_enclave(held, enclave);
 }

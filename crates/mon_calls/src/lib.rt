@@ -7,13 +7,11 @@ mod enclaves;
 mod mail;
 mod on_core;
 mod put;
-mod read;
 mod records;
 mod regions;
 mod replies;
 mod threads;
 
 pub use on_core::core_change;
-pub use read::{enclave_held, region_held, second_enclave_held, thread_held};
 pub use records::apply;
 pub use replies::decide;

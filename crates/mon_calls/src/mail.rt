@@ -7,7 +7,6 @@ ghost use Rattle.mon_mail.specs.Named.{named_mailbox, message_named, IsAccept, I
 ghost use Rattle.mon_calls.specs.Left.{with_message, left_by};
 
 use crate::put::{set_enclave, set_second};
-use crate::read::{enclave_held, second_enclave_held};
 use lock_plan::Held;
 use mon_mail::{after_accept, after_read, after_send};
 use mon_types::{Call, Enclave};
@@ -17,7 +16,7 @@ pub fn apply_accept(call: &Call, ticket: u32, held: &mut Held)
     requires { IsAccept call.now }
     ensures { (mode : Mode) (digest : List ℕ) → held.new ≡ left_by mode call.now digest ticket held.old }
 {
-    let mut enclave = enclave_held(held);
+    let mut enclave = held.first_enclave();
     after_accept(ticket, call, &mut enclave);
     set_enclave(held, enclave);
 }
@@ -47,8 +46,8 @@ pub fn apply_send(call: &Call, own: u8, ticket: u32, to: u64, held: &mut Held)
     requires { IsSend call.now }
     ensures { held.new ≡ with_message held.old own to (named_mailbox call.now) (message_named call.now) }
 {
-    let first = enclave_held(held);
-    let second = second_enclave_held(held);
+    let first = held.first_enclave();
+    let second = held.second_enclave();
     if u64::from(own) == to {
         set_enclave(held, sent_to_itself(call, own, ticket, first));
     } else if u64::from(own) < to {
@@ -63,7 +62,7 @@ pub fn apply_read(call: &Call, ticket: u32, held: &mut Held)
     requires { IsRead call.now }
     ensures { (mode : Mode) (digest : List ℕ) → held.new ≡ left_by mode call.now digest ticket held.old }
 {
-    let mut enclave = enclave_held(held);
+    let mut enclave = held.first_enclave();
     after_read(ticket, call, &mut enclave);
     set_enclave(held, enclave);
 }

@@ -3,7 +3,6 @@
 ghost use Rattle.std.specs.Prelude.{◌≡◌};
 ghost use Rattle.mon_calls.specs.OnCore.{core_change, IsChange};
 
-use crate::read::{enclave_held, thread_held};
 use core_context::After;
 use lock_plan::Held;
 use mon_types::Call;
@@ -22,10 +21,10 @@ fn change_by_records(call: &Call, held: &Held) -> After
 {
     match *call {
         Call::Flush | Call::SetSatp { .. } => After::Cleared,
-        Call::Enter { .. } => After::entering(&enclave_held(held), &thread_held(held)),
+        Call::Enter { .. } => After::entering(&held.first_enclave(), &held.first_thread()),
         Call::Exit | Call::Aex { .. } => After::Left,
         Call::Restore => {
-            let saved = thread_held(held).saved;
+            let saved = held.first_thread().saved;
             After::Restored { saved }
         }
         _ => After::Nothing,

@@ -10,7 +10,6 @@ ghost use Rattle.mon_calls.specs.OnHeld.{put_enclave, put_region, put_cell};
 ghost use Rattle.mon_calls.specs.Left.{left_by};
 
 use crate::put::{set_cell, set_enclave, set_region};
-use crate::read::{enclave_held, region_held};
 use lock_plan::Held;
 use mon_regions::{after_accept_region, after_assign, after_block, after_flush, after_free};
 use mon_types::{Call, Enclave, OS_WORD, Owner, Region};
@@ -31,8 +30,8 @@ pub fn apply_block(call: &Call, ticket: u32, r: u64, held: &mut Held)
     requires r { r < 64 }
     ensures { (mode : Mode) (digest : List ℕ) → held.new ≡ left_by mode call.now digest ticket held.old }
 {
-    let mut region = region_held(held);
-    let mut own = enclave_held(held);
+    let mut region = held.first_region();
+    let mut own = held.first_enclave();
     block_own(call, ticket, r, &mut own, &mut region);
     set_region(held, region);
     set_enclave(held, own);
@@ -92,7 +91,7 @@ pub fn apply_assign(call: &Call, ticket: u32, r: u64, to: u64, held: &mut Held)
     requires to { (to ≡ os_word → ⊥) → to < 8 }
     ensures { (mode : Mode) (digest : List ℕ) → held.new ≡ left_by mode call.now digest ticket held.old }
 {
-    let (enclave, region) = assigned(call, ticket, r, to, enclave_held(held));
+    let (enclave, region) = assigned(call, ticket, r, to, held.first_enclave());
     set_region(held, region);
     set_enclave(held, enclave);
 }
@@ -111,8 +110,8 @@ pub fn apply_accept_region(call: &Call, ticket: u32, own: u8, held: &mut Held)
     requires { IsAcceptRegion call.now }
     ensures { held.new ≡ put_enclave (put_region held.old (Region.Owned (Owner.Enclave own) ticket)) (gains_region (first_enclave held.old) (named_region call.now)) }
 {
-    let mut region = region_held(held);
-    let mut enclave = enclave_held(held);
+    let mut region = held.first_region();
+    let mut enclave = held.first_enclave();
     after_accept_region(ticket, call, own, &mut enclave, &mut region);
     set_region(held, region);
     set_enclave(held, enclave);

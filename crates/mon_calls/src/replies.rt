@@ -11,7 +11,6 @@ ghost use Rattle.mon_calls.specs.OnHeld.{tickets_held, target_held};
 ghost use Rattle.mon_calls.specs.Replied.{replied};
 ghost use Rattle.mon_calls.specs.Decided.{IsReply};
 
-use crate::read::{enclave_held, region_held, second_enclave_held, thread_held};
 use arrayvec::ArrayVec;
 use lock_plan::Held;
 use mon_enclaves::{
@@ -43,7 +42,7 @@ fn tickets_of(cells: &[(u8, u32)]) -> ArrayVec<u32, 16>
 fn decide_free_held(held: &Held) -> Reply
     ensures { result ≡ free_reply (first_region held.now) (tickets_held held.now) }
 {
-    decide_free(&region_held(held), &tickets_of(&held.cells))
+    decide_free(&held.first_region(), &tickets_of(&held.cells))
 }
 
 fn decide_give(enclave: &Enclave, region: &Region) -> Reply
@@ -66,11 +65,11 @@ fn target_of(own: u8, to: u64, held: &Held) -> Enclave
     ensures { result ≡ target_held own to held.now }
 {
     if u64::from(own) == to {
-        enclave_held(held)
+        held.first_enclave()
     } else if u64::from(own) < to {
-        second_enclave_held(held)
+        held.second_enclave()
     } else {
-        enclave_held(held)
+        held.first_enclave()
     }
 }
 
@@ -101,12 +100,12 @@ fn decide_in_range(config: &Config, mode: Mode, call: &Call, held: &Held, ptes: 
 {
     let _regions = config.regions();
     match *call {
-        Call::Block { .. } => decide_block(mode, &region_held(held)),
+        Call::Block { .. } => decide_block(mode, &held.first_region()),
         Call::Free { .. } => decide_free_held(held),
-        Call::Assign { to, .. } => decide_assign_to(to, &enclave_held(held), &region_held(held)),
+        Call::Assign { to, .. } => decide_assign_to(to, &held.first_enclave(), &held.first_region()),
         Call::Flush => decide_flush(),
-        Call::RegionInfo { .. } => decide_region_info(&region_held(held)),
-        Call::Create { .. } => decide_create(&enclave_held(held)),
+        Call::RegionInfo { .. } => decide_region_info(&held.first_region()),
+        Call::Create { .. } => decide_create(&held.first_enclave()),
         Call::LoadTable {
             va,
             level,
@@ -114,35 +113,35 @@ fn decide_in_range(config: &Config, mode: Mode, call: &Call, held: &Held, ptes: 
             ..
         } => decide_table(
             config,
-            &enclave_held(held),
+            &held.first_enclave(),
             va,
             level as u8,
             page as u16,
             ptes,
         ),
         Call::LoadPage { va, page, .. } => {
-            let (enclave, source) = (enclave_held(held), region_held(held));
+            let (enclave, source) = (held.first_enclave(), held.first_region());
             decide_page(config, &enclave, va, page as u16, &source, ptes)
         }
-        Call::LoadThread { .. } => decide_load_thread(&enclave_held(held), &thread_held(held)),
-        Call::Init { .. } => decide_init(&enclave_held(held)),
-        Call::DeleteThread { e, .. } => decide_delete_thread(e as u8, &thread_held(held)),
-        Call::Delete { .. } => decide_delete(&enclave_held(held)),
-        Call::Enter { e, .. } => decide_enter(e as u8, &enclave_held(held), &thread_held(held)),
+        Call::LoadThread { .. } => decide_load_thread(&held.first_enclave(), &held.first_thread()),
+        Call::Init { .. } => decide_init(&held.first_enclave()),
+        Call::DeleteThread { e, .. } => decide_delete_thread(e as u8, &held.first_thread()),
+        Call::Delete { .. } => decide_delete(&held.first_enclave()),
+        Call::Enter { e, .. } => decide_enter(e as u8, &held.first_enclave(), &held.first_thread()),
         Call::Exit => decide_exit(),
         Call::Aex { .. } => decide_aex(),
-        Call::Restore => decide_restore(&thread_held(held)),
+        Call::Restore => decide_restore(&held.first_thread()),
         Call::Accept { .. } => decide_accept(),
         Call::Send { to, m, .. } => {
             let own = mode.own_slot();
             decide_send(own, &target_of(own, to, held), m as u8)
         }
-        Call::Read { m } => decide_read(&enclave_held(held), m as u8),
-        Call::EnclaveInfo { .. } => decide_enclave_info(&enclave_held(held)),
+        Call::Read { m } => decide_read(&held.first_enclave(), m as u8),
+        Call::EnclaveInfo { .. } => decide_enclave_info(&held.first_enclave()),
         Call::SetSatp { .. } => decide_satp(),
-        Call::AcceptRegion { .. } => decide_accept_region(mode.own_slot(), &region_held(held)),
+        Call::AcceptRegion { .. } => decide_accept_region(mode.own_slot(), &held.first_region()),
         Call::Reserve { va, page, .. } => {
-            decide_reserve(config, &enclave_held(held), va, page as u16, ptes)
+            decide_reserve(config, &held.first_enclave(), va, page as u16, ptes)
         }
         Call::Unknown { .. } => Reply::Unsupported,
     }

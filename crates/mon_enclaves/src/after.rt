@@ -100,20 +100,6 @@ pub fn after_init(ticket: u32, call: &Call, enclave: &mut Enclave)
     enclave.measure = measure_with(&enclave.measure, &Item::Init);
 }
 
-/// A region of an enclave that is deleted at this ticket: Blocked where it was Owned.
-fn withdrawn(region: Region, ticket: u32) -> Region
-    ensures { result ≡ deleted region ticket }
-{
-    match region {
-        Region::Owned { owner, since } => Region::Blocked {
-            owner,
-            since,
-            at: ticket,
-        },
-        other => other,
-    }
-}
-
 /// What delete leaves: the slot is empty, and each of the enclave's regions is Blocked. `regions` are
 /// those of its set, ascending; one that is not Owned stays as it is.
 pub fn after_delete(ticket: u32, call: &Call, enclave: &mut Enclave, regions: &mut [Region])
@@ -122,6 +108,6 @@ pub fn after_delete(ticket: u32, call: &Call, enclave: &mut Enclave, regions: &m
 {
     *enclave = Enclave::empty();
     for region in regions.iter_mut() {
-        *region = withdrawn(*region, ticket);
+        *region = region.withdrawn(ticket);
     }
 }

@@ -16,3 +16,4 @@ mod tests;
 pub use after::{after_create, after_delete, after_init, after_page, after_reserve, after_table};
 pub use decide::{decide_create, decide_delete, decide_enclave_info, decide_init, decide_satp};
 pub use loading::{decide_page, decide_reserve, decide_table};
+pub use path::{address_of, is_load, path_length, ptes_fit};

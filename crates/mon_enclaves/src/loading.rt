@@ -10,7 +10,7 @@ ghost use Rattle.mon_enclaves.specs.ByWords.{table_reply, page_reply, reserved_r
 ghost use Rattle.mon_enclaves.specs.FromItems.{table_words, leaf_words};
 
 use crate::path::{LEAF_PATH, last_fits, path_of_table};
-use mon_types::{Config, Enclave, Owner, Region, Reply, Stage};
+use mon_types::{Config, Enclave, Owner, Region, Reply, Stage, has_bit};
 
 /// Whether the page lies in a region of the enclave.
 #[tactic(auto, using(mon_types::specs::LimitLaws::few_regions))]
@@ -22,7 +22,7 @@ fn owns_page(config: &Config, enclave: &Enclave, page: u16) -> bool
     let region = config.region_of(page);
     let regions = config.regions();
     prove!(region < regions && regions <= 64);
-    (enclave.regions >> region) % 2 == 1
+    has_bit(enclave.regions, region)
 }
 
 /// Whether the enclave is Loading, and the page is not below the next one that it may take.
@@ -82,7 +82,7 @@ pub fn decide_table(
         may_take(enclave, page)
             && owned
             && has_room_for_table(enclave, va, level)
-            && last_fits(config, path_of_table(level), entries),
+            && last_fits(config, path_of_table(u64::from(level)), entries),
     )
 }
 

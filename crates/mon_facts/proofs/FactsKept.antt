@@ -32,14 +32,14 @@ use Rattle.mon_types.specs.Replies.{done, is_done}
 use Rattle.mon_types.specs.Owns.{os_word}
 use Rattle.mon_model.specs.Early.{AnEnclave, TheOs, shuts_out, is_wrong_mode}
 use Rattle.mon_model.specs.RegionCalls.{is_empty, is_loading, is_initialized, is_free, loses_region, gains_region, block_reply, blocked, free_reply, assign_reply, assigned, with_assigned, accept_region_reply}
-use Rattle.mon_model.specs.Loading.{in_range as in_enclave, has_root, is_next_page, takes_page, reserves_page}
+use Rattle.mon_model.specs.Loading.{in_range as in_enclave, has_root, is_next_page, takes_page, reserves_page, is_reserved}
 use Rattle.mon_model.specs.EnclaveCalls.{created, create_reply, initialized, delete_reply}
 use Rattle.mon_model.specs.ThreadCalls.{is_no_state, is_ready_in, ready, one_more, with_thread_loaded, without_thread, load_thread_reply, delete_thread_reply, enter_reply, running, stopped}
 use Rattle.mon_model.specs.MailCalls.{with_mailbox}
 use Rattle.mon_types.specs.Modes.{own_slot, own_thread}
 use Rattle.mon_model.specs.Step.{held_reply, without_own_region, with_item, with_deleted, regions_of, effect, reply_of, after}
 use Rattle.mon_model.specs.Deleted.{deleted_in}
-use Rattle.mon_facts.specs.Facts.{is_owned_by, is_thread_of, is_reserved, FactsHold}
+use Rattle.mon_facts.specs.Facts.{is_owned_by, is_thread_of, FactsHold}
 use Rattle.mon_facts.specs.Tables.{NamesSlots, AreTables}
 use Rattle.mon_model.specs.InRange.{IsInRange}
 use Rattle.mon_model.proofs.InRange.{in_range}

@@ -11,7 +11,8 @@ use Rattle.mon_types.specs.declared.enclave.Enclave.{Enclave}
 use Rattle.mon_types.specs.declared.enclave.Loaded.{Loaded}
 use Rattle.mon_types.specs.Bits.{has_bit}
 use Rattle.mon_model.specs.RegionCalls.{is_empty, is_loading, is_initialized}
-use Rattle.mon_facts.specs.Facts.{is_reserved, IsPlaced, IsRootPlaced}
+use Rattle.mon_model.specs.Loading.{is_reserved}
+use Rattle.mon_facts.specs.Facts.{IsPlaced, IsRootPlaced}
 use Rattle.mon_facts.proofs.OneChanged.{at_set}
 
 -- ---- stages

@@ -14,6 +14,7 @@ use Rattle.mon_types.specs.declared.enclave.LoadedKind.TheVariants as kinds
 use Rattle.mon_types.specs.declared.thread.Mode.TheVariants as modes
 use Rattle.mon_types.specs.declared.thread.ThreadState.{ThreadState}
 use Rattle.mon_types.specs.declared.thread.ThreadState.TheVariants as states
+use Rattle.mon_model.specs.Loading.{is_reserved}
 use Rattle.mon_model.specs.State.{State, region_at, enclave_at, thread_at, mode_of, loaded_at}
 use Rattle.mon_types.specs.Bits.{has_bit}
 use Rattle.mon_model.specs.RegionCalls.{is_empty, is_loading, is_initialized}
@@ -87,14 +88,6 @@ RunningAreInitialized s =
     (e t : ℕ) → (thread_at s t).state ≡ states.Running e → is_initialized (enclave_at s e).stage ≡ true
 
 -- ---- loaded items
-
--- whether an item of this kind lies outside the enclave's set
-abbrev pub is_reserved : LoadedKind → Bool
-is_reserved kinds.Table2 = false
-is_reserved kinds.Table1 = false
-is_reserved kinds.Table0 = false
-is_reserved kinds.Page = false
-is_reserved kinds.Reserved = true
 
 -- the item's page is below the next that the enclave may take, and lies in a region of its set unless
 -- it is Reserved

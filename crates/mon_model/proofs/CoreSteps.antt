@@ -15,6 +15,7 @@ use Rattle.mon_types.specs.Owns.{os_word}
 use Rattle.mon_model.specs.Early.{is_unsupported, is_wrong_mode, is_bad_value, early}
 use Rattle.mon_model.proofs.InRange.{in_range}
 use Rattle.mon_model.specs.EnclaveCalls.{deleted}
+use Rattle.mon_model.specs.EveryStep.{chosen_field, own_field, deleted_field}
 use Rattle.mon_model.specs.Step.{without_own_region, with_deleted, regions_of, held_reply, effect, or_else, reply_of}
 use Rattle.mon_model.specs.OnCore.{mode_by, cell_by}
 use Rattle.mon_model.specs.RegionStep.{AreInsideSlots}
@@ -23,39 +24,15 @@ use Rattle.mon_model.proofs.RegionSteps.{refused}
 
 -- ---- the tables that a call on regions leaves
 
-own_modes : (s : State) (mode : Mode) (r : ℕ) → (without_own_region s mode r).modes ≡ s.modes
-own_modes s modes.Os r = refl
-own_modes s (modes.Inside e t) r = refl
-
-own_cells : (s : State) (mode : Mode) (r : ℕ) → (without_own_region s mode r).flushed ≡ s.flushed
-own_cells s modes.Os r = refl
-own_cells s (modes.Inside e t) r = refl
-
-either_modes : (b : Bool) (s x y : State) → x.modes ≡ s.modes → y.modes ≡ s.modes → (if b then x else y).modes ≡ s.modes
-either_modes true s x y p q = p
-either_modes false s x y p q = q
-
-either_cells : (b : Bool) (s x y : State) → x.flushed ≡ s.flushed → y.flushed ≡ s.flushed → (if b then x else y).flushed ≡ s.flushed
-either_cells true s x y p q = p
-either_cells false s x y p q = q
-
-deleted_modes : (s : State) (rs : List ℕ) (k : ℕ) → (with_deleted s rs k).modes ≡ s.modes
-deleted_modes s [] k = refl
-deleted_modes s (r ∷ rs) k = deleted_modes (with_region s r (deleted (region_at s r) k)) rs k
-
-deleted_cells : (s : State) (rs : List ℕ) (k : ℕ) → (with_deleted s rs k).flushed ≡ s.flushed
-deleted_cells s [] k = refl
-deleted_cells s (r ∷ rs) k = deleted_cells (with_region s r (deleted (region_at s r) k)) rs k
-
 -- ---- modes and cells
 
 same_modes : (s : State) (ms : List Mode) (core : ℕ) → ms ≡ s.modes → ms ≡ set s.modes core (mode_of s core)
 same_modes s ms core is = is ∙ sym (set-get_or s.modes core modes.Os)
 
 pub modes_after : (s : State) (core : ℕ) (call : Call) (digest : List ℕ) (k : ℕ) → (effect s core call digest k).modes ≡ set s.modes core (mode_by call (mode_of s core))
-modes_after s core (calls.Block r) digest k = same_modes s _ core (own_modes s (mode_of s core) r)
-modes_after s core (calls.Assign r to) digest k = same_modes s _ core (either_modes (to == os_word) s _ _ refl refl)
-modes_after s core (calls.Delete e) digest k = same_modes s _ core (deleted_modes s (regions_of s e) k)
+modes_after s core (calls.Block r) digest k = same_modes s _ core (own_field (λ x. x.modes) (λ t e x. refl) s (mode_of s core) r)
+modes_after s core (calls.Assign r to) digest k = same_modes s _ core (chosen_field (λ x. x.modes) (to == os_word) s _ _ refl refl)
+modes_after s core (calls.Delete e) digest k = same_modes s _ core (deleted_field (λ x. x.modes) (λ t r x. refl) s (regions_of s e) k)
 modes_after s core (calls.Enter e t) digest k = refl
 modes_after s core calls.Exit digest k = refl
 modes_after s core (calls.Aex saved) digest k = refl
@@ -65,9 +42,9 @@ same_cells : (s : State) (cells : List ℕ) (core : ℕ) → cells ≡ s.flushed
 same_cells s cells core is = is ∙ sym (set-get_or s.flushed core 0)
 
 pub cells_after : (s : State) (core : ℕ) (call : Call) (digest : List ℕ) (k : ℕ) → (effect s core call digest k).flushed ≡ set s.flushed core (cell_by call (flushed_at s core) k)
-cells_after s core (calls.Block r) digest k = same_cells s _ core (own_cells s (mode_of s core) r)
-cells_after s core (calls.Assign r to) digest k = same_cells s _ core (either_cells (to == os_word) s _ _ refl refl)
-cells_after s core (calls.Delete e) digest k = same_cells s _ core (deleted_cells s (regions_of s e) k)
+cells_after s core (calls.Block r) digest k = same_cells s _ core (own_field (λ x. x.flushed) (λ t e x. refl) s (mode_of s core) r)
+cells_after s core (calls.Assign r to) digest k = same_cells s _ core (chosen_field (λ x. x.flushed) (to == os_word) s _ _ refl refl)
+cells_after s core (calls.Delete e) digest k = same_cells s _ core (deleted_field (λ x. x.flushed) (λ t r x. refl) s (regions_of s e) k)
 cells_after s core calls.Flush digest k = refl
 cells_after s core _ digest k = sym (set-get_or s.flushed core 0)
 

@@ -16,15 +16,12 @@ use Rattle.mon_types.specs.Owns.{os_word}
 use Rattle.mon_model.specs.RegionCalls.{is_initialized, loses_region, gains_region, with_assigned}
 use Rattle.mon_model.specs.EnclaveCalls.{created, initialized, deleted}
 use Rattle.mon_types.specs.Modes.{own_slot}
+use Rattle.mon_model.specs.EveryStep.{deleted_field}
 use Rattle.mon_model.specs.Step.{without_own_region, with_deleted, regions_of, effect}
 use Rattle.mon_model.specs.OnRegion.{initialized_by}
 use Rattle.mon_model.specs.RegionStep.{FlagsStage}
 use Rattle.mon_model.proofs.Writes.{at_any}
 use Rattle.mon_model.proofs.RegionSteps.{refused}
-
-deleted_enclaves : (s : State) (rs : List ℕ) (k : ℕ) → (with_deleted s rs k).enclaves ≡ s.enclaves
-deleted_enclaves s [] k = refl
-deleted_enclaves s (r ∷ rs) k = deleted_enclaves (with_region s r (deleted (region_at s r) k)) rs k
 
 -- a record with the same stage
 kept : (es : List Enclave) (b : Bool) (q f : ℕ) (x : Enclave) → x.stage ≡ (get_or es q empty_enclave).stage → FlagsStage b (get_or es f empty_enclave).stage → FlagsStage b (get_or (set es q x) f empty_enclave).stage
@@ -73,7 +70,7 @@ pub slot_after : (s : State) (core : ℕ) (call : Call) (digest : List ℕ) (k f
 slot_after s core (calls.Create e base size) digest k f b h = anew s.enclaves b false e f (created base size) (record { loading = λ is. refl; initialized = λ no_stage. refused no_stage }) h
 slot_after s core (calls.Init e) digest k f b h = anew s.enclaves b true e f (initialized (enclave_at s e)) (record { loading = λ no_stage. refused no_stage; initialized = λ is. refl }) h
 slot_after s core (calls.Delete e) digest k f b h =
-    subst (λ (es : List Enclave). FlagsStage b (get_or (set es e empty_enclave) f empty_enclave).stage) (sym (deleted_enclaves s (regions_of s e) k)) (emptied s.enclaves b e f h)
+    subst (λ (es : List Enclave). FlagsStage b (get_or (set es e empty_enclave) f empty_enclave).stage) (sym (deleted_field (λ x. x.enclaves) (λ t r x. refl) s (regions_of s e) k)) (emptied s.enclaves b e f h)
 slot_after s core (calls.Block r) digest k f b h = block_slot s (mode_of s core) r b f h
 slot_after s core (calls.Assign r to) digest k f b h = assign_slot (to == os_word) s r to _ _ b f h
 slot_after s core (calls.LoadTable e va level page) digest k f b h = kept s.enclaves b e f _ refl h

@@ -12,6 +12,7 @@ use Rattle.mon_types.specs.declared.thread.Mode.TheVariants as modes
 use Rattle.mon_types.specs.declared.reply.Reply.{Reply}
 use Rattle.mon_types.specs.declared.reply.Reply.TheVariants as replies
 use Rattle.mon_types.specs.Replies.{done_if, ok_with_eight}
+use Rattle.mon_types.specs.Owns.{withdrawn}
 use Rattle.mon_model.specs.RegionCalls.{acts_for, is_empty, is_loading}
 use Rattle.mon_model.specs.Loading.{in_range, has_root, takes_page, reserves_page, has_place_for_table, has_place_for_leaf}
 use Rattle.mon_model.specs.Measure.{Item, Table, Page, Init, reserved_level, measure_created, measure_with}
@@ -99,10 +100,7 @@ delete_reply enclave = done_if (not (is_empty enclave.stage) && enclave.threads 
 
 -- a region of a deleted enclave at ticket k; one that is not owned, which never comes, stays
 abbrev pub deleted : Region → ℕ → Region
-deleted regions.Free k = regions.Free
-deleted (regions.Owned owner since) k = regions.Blocked owner since k
-deleted (regions.Blocked owner since at) k = regions.Blocked owner since at
-deleted (regions.Offered to at) k = regions.Offered to at
+deleted region k = withdrawn region k
 
 -- ---- enclave_info
 

@@ -32,6 +32,7 @@ use Rattle.mon_model.specs.Measure.{Item, Create, Table, Page, Thread, Init, res
 use Rattle.mon_model.specs.EnclaveCalls.{created, table_fits, leaf_fits, is_os_owned, load_table_reply, load_page_reply, reserve_reply, init_reply, deleted}
 use Rattle.mon_model.specs.ThreadCalls.{is_no_state, load_thread_reply}
 use Rattle.mon_types.specs.Modes.{own_slot}
+use Rattle.mon_model.specs.EveryStep.{deleted_field}
 use Rattle.mon_model.specs.Step.{without_own_region, assign_effect, with_deleted, regions_of, held_reply, or_else, reply_of, effect, after}
 use Rattle.mon_model.specs.MeasureWords.{to_bytes-to_words}
 use Rattle.mon_model.specs.Digests.{chain_digest}
@@ -159,10 +160,6 @@ assign_tells items s r to k e before =
     cond_both (nat_eq to os_word) _ _ (λ x. Tells items (enclave_at x e)) (λ _. before)
     (λ _. kept items s.enclaves to e (with_assigned (enclave_at s to) r) (assigned_stage (enclave_at s to) r) (assigned_measure (enclave_at s to) r) before)
 
-deleted_enclaves : (s : State) (rs : List ℕ) (k : ℕ) → (with_deleted s rs k).enclaves ≡ s.enclaves
-deleted_enclaves s [] k = refl
-deleted_enclaves s (r ∷ rs) k = deleted_enclaves (with_region s r (deleted (region_at s r) k)) rs k
-
 delete_tells : (items : List Item) (xs ys : List Enclave) (f e : ℕ) → ys ≡ xs → Tells items (slot_at xs e) → Tells items (slot_at (slice_set ys f empty_enclave) e)
 delete_tells items xs ys f e same before =
     subst (λ (zs : List Enclave). Tells items (slot_at (slice_set zs f empty_enclave) e)) (sym same) (written items xs f e empty_enclave (λ _. tells_empty items) (λ _. before))
@@ -184,7 +181,7 @@ effect_tells s core (calls.Init f) digest k e items ok before =
 effect_tells s core (calls.Reserve f va page perms) digest k e items ok before =
     added items (Table va (reserved_level perms)) s.enclaves f e _ (reserve_filled s.shape (enclave_at s f) (loaded_at s f) va page ok) refl before
 effect_tells s core (calls.DeleteThread f t) digest k e items ok before = kept items s.enclaves f e _ refl refl before
-effect_tells s core (calls.Delete f) digest k e items ok before = delete_tells items s.enclaves _ f e (deleted_enclaves s (regions_of s f) k) before
+effect_tells s core (calls.Delete f) digest k e items ok before = delete_tells items s.enclaves _ f e (deleted_field (λ x. x.enclaves) (λ t r x. refl) s (regions_of s f) k) before
 effect_tells s core (calls.Accept m from) digest k e items ok before = kept items s.enclaves (own_slot (mode_of s core)) e _ refl refl before
 effect_tells s core (calls.Send to m w0 w1 w2 w3) digest k e items ok before = kept items s.enclaves to e _ refl refl before
 effect_tells s core (calls.Read m) digest k e items ok before = kept items s.enclaves (own_slot (mode_of s core)) e _ refl refl before

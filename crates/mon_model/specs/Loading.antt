@@ -47,6 +47,14 @@ is_leaf kinds.Table0 = false
 is_leaf kinds.Page = true
 is_leaf kinds.Reserved = true
 
+-- a reserved page
+abbrev pub is_reserved : LoadedKind → Bool
+is_reserved kinds.Table2 = false
+is_reserved kinds.Table1 = false
+is_reserved kinds.Table0 = false
+is_reserved kinds.Page = false
+is_reserved kinds.Reserved = true
+
 -- A page-table entry (pte) on an address's path is not 0 exactly where its child is there: the root's where a table of
 -- level 1 is, that table's where a table of level 0 is, and that one's where a leaf is.
 abbrev pub has_table_1 : ℕ → List Loaded → Bool

@@ -13,7 +13,7 @@ use Rattle.mon_types.specs.declared.thread.Mode.TheVariants as modes
 use Rattle.mon_types.specs.declared.reply.Reply.{Reply}
 use Rattle.mon_types.specs.declared.reply.Reply.TheVariants as replies
 use Rattle.mon_types.specs.Bits.{with_bit, without_bit}
-use Rattle.mon_types.specs.Owns.{os_word}
+use Rattle.mon_types.specs.Owns.{os_word, withdrawn}
 use Rattle.mon_types.specs.Replies.{done, ok_with_four}
 
 -- the enclave loses a region
@@ -43,10 +43,8 @@ block_reply (modes.Inside e t) (regions.Offered to at) = replies.AccessDenied
 
 -- the region blocked at ticket k; a withdrawn offer is blocked as if the enclave had owned it since the offer
 abbrev pub blocked : Region → ℕ → Region
-blocked regions.Free k = regions.Free
-blocked (regions.Owned owner since) k = regions.Blocked owner since k
-blocked (regions.Blocked owner since at) k = regions.Blocked owner since at
 blocked (regions.Offered to at) k = regions.Blocked (owners.Enclave to) at k
+blocked region k = withdrawn region k
 
 -- ---- free
 

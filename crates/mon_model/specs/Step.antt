@@ -150,9 +150,13 @@ or_else (Some refusal) reply = refusal
 abbrev pub reply_of : State → ℕ → Call → Reply
 reply_of s core call = or_else (early s.shape (mode_of s core) call) (held_reply s core call)
 
--- a refusal changes nothing
+-- the state after a call that has this reply: a refusal changes nothing
+abbrev pub changed : Reply → State → ℕ → Call → List ℕ → ℕ → State
+changed reply s core call digest ticket = if is_done reply then effect s core call digest ticket else s
+
+-- the state after a call
 abbrev pub after : State → ℕ → Call → List ℕ → ℕ → State
-after s core call digest ticket = if is_done (reply_of s core call) then effect s core call digest ticket else s
+after s core call digest ticket = changed (reply_of s core call) s core call digest ticket
 
 -- the new state and the reply; digest is that of the page that a load_page reads
 abbrev pub monitor_step : State → ℕ → Call → List ℕ → ℕ → State × Reply

@@ -15,10 +15,10 @@ use Rattle.mon_model.specs.State.{State, region_at, mode_of, with_region, with_e
 use Rattle.mon_model.specs.RegionCalls.{blocked}
 use Rattle.mon_model.specs.EnclaveCalls.{deleted}
 use Rattle.mon_model.specs.Early.{early}
-use Rattle.mon_model.specs.Step.{reply_of, held_reply, or_else, effect, without_own_region, with_deleted, regions_of}
+use Rattle.mon_model.specs.Step.{changed, reply_of, held_reply, or_else, effect, without_own_region, with_deleted, regions_of}
 use Rattle.mon_model.specs.Tries.{tries, held_tries, unless_refused}
 use Rattle.mon_records.specs.Rows.{row_words}
-use Rattle.mon_records.specs.Changed.{changed, without_items, IsDecidedByRecords}
+use Rattle.mon_records.specs.WithoutItems.{without_items, IsDecidedByRecords}
 
 tries_by_records : (s : State) (core : ℕ) (call : Call) → held_tries (without_items s) core call ≡ held_tries s core call
 unfolding without_items

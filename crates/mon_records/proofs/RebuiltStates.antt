@@ -28,7 +28,7 @@ use Rattle.mon_types.specs.declared.object.ObjectId.{ObjectId}
 use Rattle.mon_types.specs.declared.object.ObjectId.TheVariants as objects
 use Rattle.mon_model.specs.State.{State, IsWhole, region_at, enclave_at, thread_at, flushed_at, mode_of}
 use Rattle.mon_model.specs.Early.{early}
-use Rattle.mon_model.specs.Step.{reply_of, after}
+use Rattle.mon_model.specs.Step.{changed, reply_of, after}
 use Rattle.mon_model.specs.Tries.{tries, held_tries, unless_refused, own_enclave, free_tries, send_tries}
 use Rattle.mon_model.specs.Laws.{AgreeOn, SameCall}
 use Rattle.mon_model.proofs.Agree.{reads}
@@ -38,7 +38,7 @@ use Rattle.lock_plan.specs.EveryPlan.{first_settles}
 use Rattle.lock_plan.proofs.Order.{tries_ascend}
 use Rattle.mon_records.specs.Rows.{Found, row_words, objects_of, same_object, words_of}
 use Rattle.mon_records.specs.Rebuilt.{found_region, found_enclave, found_thread, found_cell, state_of}
-use Rattle.mon_records.specs.Changed.{changed, IsDecidedByRecords}
+use Rattle.mon_records.specs.WithoutItems.{IsDecidedByRecords}
 use Rattle.mon_records.specs.RebuiltLaws.{IsReadable, AreRowsOf, HasFound, rebuilt}
 use Rattle.mon_records.proofs.Members.{In, contains_in, in_contains}
 use Rattle.mon_records.proofs.Items.{same_reply, same_rows, with_items, other_items, with_items_tries, with_items_change}

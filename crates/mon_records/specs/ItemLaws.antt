@@ -4,10 +4,10 @@ use Rattle.mon_types.specs.declared.call.Call.{Call}
 use Rattle.mon_types.specs.declared.reply.Reply.{Reply}
 use Rattle.mon_types.specs.declared.object.ObjectId.{ObjectId}
 use Rattle.mon_model.specs.State.{State}
-use Rattle.mon_model.specs.Step.{reply_of}
+use Rattle.mon_model.specs.Step.{changed, reply_of}
 use Rattle.mon_model.specs.Tries.{tries}
 use Rattle.mon_records.specs.Rows.{row_words}
-use Rattle.mon_records.specs.Changed.{changed, without_items, IsDecidedByRecords}
+use Rattle.mon_records.specs.WithoutItems.{without_items, IsDecidedByRecords}
 
 -- a state tries the same without its items
 abbrev pub TriesWithoutItems : Type 0

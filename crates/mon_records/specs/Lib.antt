@@ -1,6 +1,6 @@
 pub mod Rows
 pub mod Rebuilt
-pub mod Changed
+pub mod WithoutItems
 pub mod EarlyWords
 pub mod Answers
 pub mod Ranges

@@ -7,7 +7,7 @@ use Rattle.mon_types.specs.Objects.{width}
 use Rattle.mon_types.specs.declared.call.Call.{Call}
 use Rattle.mon_types.specs.declared.object.ObjectId.{ObjectId}
 use Rattle.mon_model.specs.State.{State, IsWhole, enclave_at, mode_of}
-use Rattle.mon_model.specs.Step.{reply_of, after}
+use Rattle.mon_model.specs.Step.{changed, reply_of, after}
 use Rattle.mon_model.specs.Tries.{tries}
 use Rattle.mon_model.specs.Laws.{AgreeOn}
 use Rattle.mon_facts.specs.Tables.{AreTables}
@@ -15,7 +15,7 @@ use Rattle.mon_facts.specs.Facts.{FactsHold}
 use Rattle.lock_plan.specs.Objects.{IsCaller}
 use Rattle.mon_records.specs.Rows.{Found, row_words, objects_of}
 use Rattle.mon_records.specs.Rebuilt.{state_of}
-use Rattle.mon_records.specs.Changed.{changed, IsDecidedByRecords}
+use Rattle.mon_records.specs.WithoutItems.{IsDecidedByRecords}
 use Rattle.mon_records.specs.Ranges.{AreInRange}
 
 -- A state whose records come back from their rows: the machine is within the limits, the tables are whole, the records

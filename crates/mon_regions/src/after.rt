@@ -29,17 +29,12 @@ fn withdrawn(region: Region, ticket: u32) -> Region
     ensures { result ≡ blocked region ticket }
 {
     match region {
-        Region::Owned { owner, since } => Region::Blocked {
-            owner,
-            since,
-            at: ticket,
-        },
         Region::Offered { to, at } => Region::Blocked {
             owner: Owner::Enclave(to),
             since: at,
             at: ticket,
         },
-        other => other,
+        region => region.withdrawn(ticket),
     }
 }
 

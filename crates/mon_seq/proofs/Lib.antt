@@ -1,3 +1,4 @@
 pub mod Put
 pub mod Gathered
 pub mod Measured
+pub mod Decided

@@ -25,7 +25,7 @@ use Rattle.mon_model.specs.InRange.{IsInRange}
 use Rattle.mon_model.specs.EnclaveCalls.{deleted}
 use Rattle.mon_model.specs.Tries.{tries}
 use Rattle.mon_model.specs.Step.{without_own_region, with_deleted, regions_of, held_reply, effect, reply_of, after}
-use Rattle.mon_model.specs.EveryStep.{after_shape}
+use Rattle.mon_model.specs.EveryStep.{chosen_field, own_field, deleted_field, after_shape}
 use Rattle.mon_model.proofs.Whole.{stays}
 use Rattle.mon_model.specs.OnCore.{mode_by}
 use Rattle.mon_model.specs.Laws.{ChangesOnly}
@@ -134,22 +134,10 @@ put_is (objects.Cell i ∷ xs) s t long same =
 
 -- ---- items
 
-chosen_items : (b : Bool) (s x y : State) → x.loaded ≡ s.loaded → y.loaded ≡ s.loaded → (cond b x y).loaded ≡ s.loaded
-chosen_items true s x y p q = p
-chosen_items false s x y p q = q
-
-own_items : (s : State) (mode : Mode) (r : ℕ) → (without_own_region s mode r).loaded ≡ s.loaded
-own_items s modes.Os r = refl
-own_items s (modes.Inside e t) r = refl
-
-deleted_items : (s : State) (rs : List ℕ) (k : ℕ) → (with_deleted s rs k).loaded ≡ s.loaded
-deleted_items s [] k = refl
-deleted_items s (r ∷ rs) k = deleted_items (with_region s r (deleted (region_at s r) k)) rs k
-
 items_are : (s : State) (core : ℕ) (call : Call) (digest : List ℕ) (k : ℕ) → (effect s core call digest k).loaded ≡ loaded_after call s.loaded
-items_are s core (calls.Block r) digest k = own_items s (mode_of s core) r
-items_are s core (calls.Assign r to) digest k = chosen_items _ s _ _ refl refl
-items_are s core (calls.Delete e) digest k = ap (λ (ls : List (List Loaded)). slice_set ls e []) (deleted_items s (regions_of s e) k)
+items_are s core (calls.Block r) digest k = own_field (λ x. x.loaded) (λ t e x. refl) s (mode_of s core) r
+items_are s core (calls.Assign r to) digest k = chosen_field (λ x. x.loaded) _ s _ _ refl refl
+items_are s core (calls.Delete e) digest k = ap (λ (ls : List (List Loaded)). slice_set ls e []) (deleted_field (λ x. x.loaded) (λ t r x. refl) s (regions_of s e) k)
 items_are s core _ digest k = refl
 
 -- there is room for an item that is loaded

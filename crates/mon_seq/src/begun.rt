@@ -12,8 +12,9 @@ use mon_types::{Reply, Tried};
 pub struct Begun {
     /// What the call answers.
     pub reply: Reply,
-    /// Whether it is refused before any object is tried.
-    pub is_early: bool,
+    /// Whether it goes on to the page-table entries on its path: it loads an enclave, it is not refused
+    /// before any object is tried, and the records of what it tries do not refuse it.
+    pub reads_ptes: bool,
     /// The objects that it tries; none where it is refused before.
     pub tried: Tried,
     /// The records of these objects.
@@ -37,7 +38,7 @@ impl Begun {
     pub fn new() -> Begun {
         Begun {
             reply: Reply::Unsupported,
-            is_early: true,
+            reads_ptes: false,
             tried: nothing_tried(),
             held: Held::new(),
         }

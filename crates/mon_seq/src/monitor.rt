@@ -104,9 +104,7 @@ impl Monitor {
         requires { core < self.now.state.shape.cores }
         ensures { result ≡ tried_set (tries self.now.state core call.now) }
     {
-        let mut begun = Begun::new();
-        self.state.begin(core, call, &mut begun);
-        begun.tried
+        self.state.tries(core, call)
     }
 
     /// Spends the next ticket, and changes nothing else.

@@ -1,6 +1,6 @@
 //! One call on the tables, in two steps.
 
-ghost use Rattle.std.specs.Prelude.{◌≡◌, ◌<◌, [], length, true, None};
+ghost use Rattle.std.specs.Prelude.{◌≡◌, ◌<◌, ◌&&◌, [], length, true, false, None};
 ghost use Rattle.mon_types.specs.Replies.{is_done};
 ghost use Rattle.mon_model.specs.State.{mode_of};
 ghost use Rattle.mon_model.specs.Early.{early};
@@ -8,6 +8,7 @@ ghost use Rattle.mon_model.specs.InRange.{IsInRange};
 ghost use Rattle.mon_model.specs.Step.{reply_of, after};
 ghost use Rattle.mon_model.specs.Tries.{tries, tried_set};
 ghost use Rattle.mon_facts.specs.Tables.{AreTables};
+ghost use Rattle.mon_enclaves.specs.LoadReply.{is_load, reads_ptes};
 ghost use Rattle.lock_plan.specs.Records.{nothing_held, records_of};
 ghost use Rattle.mon_calls.specs.Decided.{ArePathWords};
 ghost use Rattle.mon_seq.specs.Begun.{begun_in};
@@ -18,7 +19,16 @@ use crate::words::{words_of_leaf, words_of_table};
 use arrayvec::ArrayVec;
 use lock_plan::{Held, refuse_early};
 use mon_calls::{apply, decide};
-use mon_types::{Call, Mode};
+use mon_enclaves::{is_load, ptes_fit};
+use mon_types::{Call, Mode, Reply, Tried};
+
+/// Whether a call goes on to the ptes on its path that is not refused early, where this is its reply by the
+/// records alone.
+fn goes_on(call: &Call, by_records: &Reply) -> bool
+    ensures { result ≡ (is_load call.now && is_done by_records.now) }
+{
+    is_load(call) && by_records.is_ok()
+}
 
 impl MonitorState {
     /// For whom a core runs.
@@ -57,7 +67,7 @@ impl MonitorState {
         begun.held.clear();
         match refuse_early(&self.config, mode, call) {
             Some(refusal) => {
-                begun.is_early = true;
+                begun.reads_ptes = false;
                 begun.reply = refusal;
             }
             None => self.begin_held(core, mode, call, begun),
@@ -75,9 +85,41 @@ impl MonitorState {
         ensures { begun.new ≡ begun_in self.now core call.now }
     {
         self.gather(core, mode, call, &mut begun.tried, &mut begun.held);
-        let ptes = self.ptes_of(call);
-        begun.is_early = false;
-        begun.reply = decide(&self.config, core, mode, call, &begun.held, &ptes);
+        let by_records = decide(&self.config, core, mode, call, &begun.held, &[]);
+        begun.reads_ptes = goes_on(call, &by_records);
+        begun.reply = self.reply_by_ptes(core, call, by_records, begun.reads_ptes);
+    }
+
+    /// What a call answers that is not refused early: where it goes on to the ptes on its path they decide,
+    /// else the records have.
+    fn reply_by_ptes(&self, core: u8, call: &Call, by_records: Reply, goes_on: bool) -> Reply
+        requires tables { AreTables self.now }
+        requires arguments { IsInRange self.now.shape call.now }
+        requires ptes { goes_on ≡ reads_ptes self.now core call.now }
+        requires records { goes_on ≡ false → by_records ≡ reply_of self.now core call.now }
+        ensures { result ≡ reply_of self.now core call.now }
+    {
+        if goes_on {
+            let ptes = self.ptes_of(call);
+            Reply::done_if(ptes_fit(&self.config, call, &ptes))
+        } else {
+            by_records
+        }
+    }
+
+    /// The objects that a call by a core of the machine would try.
+    pub fn tries(&self, core: u8, call: &Call) -> Tried
+        requires tables { AreTables self.now }
+        requires core { core < self.now.shape.cores }
+        ensures { result ≡ tried_set (tries self.now core call.now) }
+    {
+        let mode = self.mode(core);
+        let mut tried = nothing_tried();
+        if refuse_early(&self.config, mode, call).is_none() {
+            let mut held = Held::new();
+            self.gather(core, mode, call, &mut tried, &mut held);
+        }
+        tried
     }
 
     /// What a call that was begun on these tables makes of them, at this ticket.

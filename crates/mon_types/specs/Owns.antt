@@ -1,4 +1,5 @@
--- The two words of a region's row, this project's own: the own-word, and the ticket of its blocking.
+-- A region that is withdrawn, and the two words of a region's row, the own-word and the ticket of its blocking. This
+-- project's own.
 use Rattle.std.specs.Prelude.{◌≡◌, ℕ, ◌+◌, ◌-◌, ◌*◌, ◌/◌, ◌%◌, ◌^◌, ◌<◌, ⊤, ◌==◌, nat_lt, if◌then◌else◌, List, [], ◌∷◌, slice_index, Option, Some, None}
 use Rattle.mon_types.specs.declared.region.Owner.{Owner}
 use Rattle.mon_types.specs.declared.region.Owner.TheVariants as owners
@@ -28,6 +29,13 @@ IsRegion regions.Free = ⊤
 IsRegion (regions.Owned owner since) = IsOwner owner × (since < 2 ^ 32)
 IsRegion (regions.Blocked owner since at) = IsOwner owner × (since < 2 ^ 32) × (at < 2 ^ 32)
 IsRegion (regions.Offered to at) = (to < 8) × (at < 2 ^ 32)
+
+-- a region that is withdrawn from its owner at ticket k; one that is not Owned stays
+abbrev pub withdrawn : Region → ℕ → Region
+withdrawn regions.Free k = regions.Free
+withdrawn (regions.Owned owner since) k = regions.Blocked owner since k
+withdrawn (regions.Blocked owner since at) k = regions.Blocked owner since at
+withdrawn (regions.Offered to at) k = regions.Offered to at
 
 -- 0 for the OS, else one more than the enclave's slot
 abbrev pub owner_code : Owner → ℕ

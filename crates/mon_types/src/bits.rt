@@ -4,7 +4,7 @@ ghost use Rattle.std.specs.Prelude.{◌≡◌, ◌<◌, ◌^◌};
 ghost use Rattle.mon_types.specs.Bits.{has_bit, with_bit, without_bit};
 
 /// The set of `i` alone.
-fn bit(i: u8) -> u64
+pub fn bit(i: u8) -> u64
     requires { i < 64 }
     ensures { result ≡ 2 ^ i }
 {

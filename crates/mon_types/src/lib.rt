@@ -25,7 +25,7 @@ mod thread;
 mod thread_row;
 mod words;
 
-pub use bits::{has_bit, with_bit, without_bit};
+pub use bits::{bit, has_bit, with_bit, without_bit};
 pub use call::Call;
 pub use cell::cell_of;
 pub use config::Config;

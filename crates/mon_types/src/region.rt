@@ -3,7 +3,7 @@
 ghost use Rattle.std.specs.Prelude.{◌≡◌, ◌≤◌, Some, IfSome, [], ◌∷◌};
 ghost use Rattle.mon_types.specs.declared.region.Owner.{Owner};
 ghost use Rattle.mon_types.specs.declared.region.Region.{Region};
-ghost use Rattle.mon_types.specs.Owns.{IsOwner, RegionNamesSlot, IsRegionRow, owner_code, own_word, at_word, owner_from, region_from, region_or_free, region_parts};
+ghost use Rattle.mon_types.specs.Owns.{IsOwner, RegionNamesSlot, IsRegionRow, owner_code, own_word, at_word, owner_from, region_from, region_or_free, region_parts, withdrawn};
 
 use crate::words::u32_of;
 
@@ -29,6 +29,22 @@ pub enum Region {
     Blocked { owner: Owner, since: u32, at: u32 },
     /// Offered by the OS at ticket `at` to the enclave in slot `to`, which has not accepted it yet.
     Offered { to: u8, at: u32 },
+}
+
+impl Region {
+    /// The region once it is withdrawn from its owner at this ticket: Blocked where it was Owned.
+    pub fn withdrawn(self, ticket: u32) -> Region
+        ensures { result ≡ withdrawn self ticket }
+    {
+        match self {
+            Region::Owned { owner, since } => Region::Blocked {
+                owner,
+                since,
+                at: ticket,
+            },
+            other => other,
+        }
+    }
 }
 
 /// 0 for the OS, else one more than the enclave's slot.

@@ -1,10 +1,10 @@
--- What a call that answers Ok makes of the core, from what each part of it was made.
-use Rattle.std.proofs.Common.{◌≡◌, ℕ, ◌+◌, Bool, true, cond, List, [], ◌∷◌, ◌++◌, length, map, Option, None, sym, ap, ◌∙◌, append_assoc}
+-- What a call makes of the core, from what each part of it was made.
+use Rattle.std.proofs.Common.{◌≡◌, ℕ, ◌+◌, Bool, true, false, cond, List, [], ◌∷◌, ◌++◌, length, map, Option, None, sym, ap, ◌∙◌, append_assoc, append-nil}
 use Rattle.mon_types.specs.declared.call.Call.{Call}
 use Rattle.mon_types.specs.declared.reply.Reply.{Reply}
 use Rattle.mon_types.specs.declared.object.Tried.{Tried}
 use Rattle.mon_types.specs.Replies.{is_done}
-use Rattle.mon_model.specs.Step.{reply_of, after}
+use Rattle.mon_model.specs.Step.{reply_of, effect, after}
 use Rattle.mon_model.specs.Tries.{tries, tried_set}
 use Rattle.hist.specs.declared.event.PageInput.{PageInput}
 use Rattle.hist.specs.declared.event.Event.TheVariants as events
@@ -12,7 +12,7 @@ use Rattle.hist.specs.History.{digest_of}
 use Rattle.dram_map.specs.Words.{word_at}
 use Rattle.core_context.specs.declared.after.After.TheVariants as afters
 use Rattle.core_context.specs.Changes.{ok_change, contexts_after}
-use Rattle.solo.specs.Solo.{Core, pte_places, source_words, page_input, stored, leaving_of, called}
+use Rattle.solo.specs.Solo.{Core, pte_places, source_words, page_input, digest_for, stored, leaving_of, called}
 use Rattle.solo.proofs.Done.{digest_is}
 
 -- the parts of a core after a call, where the places, the page, the reply and the tried objects are these
@@ -45,6 +45,38 @@ made_so c call places page reply tried d p =
     ∙ sym (ap (λ (b : Bool). c.answers ++ (map (word_at c.words) (pte_places c call) ++ cond b (source_words c.words call) [])) p.ok) in
     let page_so : page ≡ cond (is_done (reply_of c.state 0 call)) (page_input c.words call (length c.answers + length (pte_places c call))) None =
     p.told ∙ ap (page_input c.words call) same_at ∙ sym (ap (λ (b : Bool). cond b (page_input c.words call (length c.answers + length (pte_places c call))) None) p.ok) in
+    let log : d.log ≡ (called c call).log =
+    p.log ∙ (λ i. c.log ++ events.Entry record { ticket = c.made + 1; core = 0; serial = c.made; call = call; page = page_so i; reply = p.answers_so i; tried = p.objects i } ∷ []) in
+    λ i. record { state = state i; made = p.made i; contexts = contexts i; words = words i; answers = answers i; log = log i }
+
+-- the parts of a core after a call that is refused
+pub record IsRefused (c : Core) (call : Call) (places : List ℕ) (page : Option PageInput) (reply : Reply) (tried : Tried) (d : Core) : Type 0 where
+  pub refused : is_done (reply_of c.state 0 call) ≡ false
+  pub path : places ≡ pte_places c call
+  pub told : page ≡ None
+  pub answers_so : reply ≡ reply_of c.state 0 call
+  pub objects : tried ≡ tried_set (tries c.state 0 call)
+  pub state : d.state ≡ after c.state 0 call (digest_of page) (c.made + 1)
+  pub made : d.made ≡ c.made + 1
+  pub contexts : d.contexts ≡ c.contexts
+  pub words : d.words ≡ c.words
+  pub answers : d.answers ≡ c.answers ++ map (word_at c.words) places
+  pub log : d.log ≡ c.log ++ events.Entry record { ticket = c.made + 1; core = 0; serial = c.made; call = call; page = page; reply = reply; tried = tried } ∷ []
+
+pub refused_so : (c : Core) (call : Call) (places : List ℕ) (page : Option PageInput) (reply : Reply) (tried : Tried) (d : Core) → IsRefused c call places page reply tried d → d ≡ called c call
+refused_so c call places page reply tried d p =
+    let stays : (digest : List ℕ) → after c.state 0 call digest (c.made + 1) ≡ c.state = λ digest. ap (λ (b : Bool). cond b (effect c.state 0 call digest (c.made + 1)) c.state) p.refused in
+    let state : d.state ≡ (called c call).state = p.state ∙ stays (digest_of page) ∙ sym (stays (digest_for c.words call)) in
+    let contexts : d.contexts ≡ (called c call).contexts =
+    p.contexts ∙ sym (ap (λ (b : Bool). contexts_after c.contexts (cond b (ok_change c.state 0 call) afters.Nothing) (leaving_of call)) p.refused) in
+    let words : d.words ≡ (called c call).words =
+    p.words ∙ sym (ap (λ (b : Bool). cond b (stored c.state.shape call (pte_places c call) c.words) c.words) p.refused) in
+    let answers : d.answers ≡ (called c call).answers =
+    p.answers ∙ ap (λ (l : List ℕ). c.answers ++ map (word_at c.words) l) p.path
+    ∙ ap (λ (l : List ℕ). c.answers ++ l) (sym (append-nil (map (word_at c.words) (pte_places c call))))
+    ∙ sym (ap (λ (b : Bool). c.answers ++ (map (word_at c.words) (pte_places c call) ++ cond b (source_words c.words call) [])) p.refused) in
+    let page_so : page ≡ cond (is_done (reply_of c.state 0 call)) (page_input c.words call (length c.answers + length (pte_places c call))) None =
+    p.told ∙ sym (ap (λ (b : Bool). cond b (page_input c.words call (length c.answers + length (pte_places c call))) None) p.refused) in
     let log : d.log ≡ (called c call).log =
     p.log ∙ (λ i. c.log ++ events.Entry record { ticket = c.made + 1; core = 0; serial = c.made; call = call; page = page_so i; reply = p.answers_so i; tried = p.objects i } ∷ []) in
     λ i. record { state = state i; made = p.made i; contexts = contexts i; words = words i; answers = answers i; log = log i }

@@ -7,12 +7,10 @@ use Rattle.mon_types.specs.declared.thread.Mode.{Mode}
 use Rattle.mon_types.specs.declared.thread.Mode.TheVariants as modes
 use Rattle.mon_types.specs.declared.call.Call.{Call}
 use Rattle.mon_types.specs.declared.call.Call.TheVariants as calls
-use Rattle.mon_types.specs.declared.reply.Reply.{Reply}
 use Rattle.mon_types.specs.declared.script.Line.{Line}
 use Rattle.mon_types.specs.declared.script.Line.TheVariants as lines
-use Rattle.mon_model.specs.State.{State, start, mode_of, thread_at}
+use Rattle.mon_model.specs.State.{State, start, mode_of, enclave_at}
 use Rattle.mon_types.specs.Replies.{is_done}
-use Rattle.mon_model.specs.Early.{early}
 use Rattle.mon_types.specs.Modes.{own_thread}
 use Rattle.mon_model.specs.Step.{reply_of, after}
 use Rattle.mon_model.specs.Tries.{tries, tried_set}
@@ -31,9 +29,9 @@ use Rattle.core_context.specs.declared.contexts.Leaving.TheVariants as leavings
 use Rattle.core_context.specs.Registers.{with_register, saved_context}
 use Rattle.core_context.specs.Changes.{change_after, begun_contexts, contexts_after}
 use Rattle.mon_types.specs.Budgets.{event_budget, answer_budget, line_events, line_answers, tick_cause}
-use Rattle.dram_map.specs.Words.{word_at, zero_words, words_of_page, page_copied, region_cleared}
-use Rattle.sv39_pte.specs.Tables.{pointer_pte, leaf_pte}
-use Rattle.solo.specs.Ptes.{held_places, pte_put}
+use Rattle.dram_map.specs.Words.{word_at, word_put, zero_words, words_of_page, page_copied, region_cleared}
+use Rattle.sv39_pte.specs.Tables.{last_place, pointer_pte, leaf_pte}
+use Rattle.mon_enclaves.specs.LoadReply.{slot_of, call_path, reads_ptes}
 
 -- The core between two lines: the monitor's state; how many calls it made, which are all there are; its pc and
 -- registers, and those of the OS, kept while it is inside an enclave; the words of DRAM; the words that loads gave it;
@@ -63,14 +61,12 @@ mode_now c = mode_of c.state 0
 
 -- ---- a monitor call
 
--- these places, none where the call is refused early
-abbrev pub unless_early : Option Reply → List ℕ → List ℕ
-unless_early None places = places
-unless_early (Some refusal) places = []
-
--- the places of the page-table entries (ptes) that the call reads, none where it is refused early
+-- the places of the page-table entries (ptes) that the call reads: those on its path, where it goes on to them
 abbrev pub pte_places : Core → Call → List ℕ
-pte_places c call = unless_early (early c.state.shape (mode_now c) call) (held_places c.state c.words call)
+pte_places c call =
+    if reads_ptes c.state 0 call
+    then call_path c.state.shape (word_at c.words) (enclave_at c.state (slot_of call)) call
+    else []
 
 -- the words that a load_page copies; other calls copy none
 abbrev pub source_words : List ℕ → Call → List ℕ
@@ -117,6 +113,10 @@ abbrev pub loaded_by : Core → Call → List ℕ
 loaded_by c call =
     map (word_at c.words) (pte_places c call)
     ++ (if is_done (reply_of c.state 0 call) then source_words c.words call else [])
+
+-- the words after a pte was stored at the last of these places
+abbrev pub pte_put : List ℕ → List ℕ → ℕ → List ℕ
+pte_put words places pte = word_put words (last_place places) pte
 
 -- DRAM after Ok, where the ptes at these places were read: zeros in each page of a region that is free now; the pte
 -- of a table, whose page is not written; a copy of the source page, and then its pte; the pte of a reserved page

@@ -6,10 +6,9 @@ ghost use Rattle.mon_model.specs.InRange.{IsInRange};
 ghost use Rattle.hist.specs.History.{digest_of};
 ghost use Rattle.dram_map.specs.Addresses.{word_total};
 ghost use Rattle.dram_map.specs.Words.{word_at};
-ghost use Rattle.solo.specs.Ptes.{pte_put};
 ghost use Rattle.mon_types.specs.Budgets.{event_budget, answer_budget, line_events, line_answers};
 ghost use Rattle.mon_types.specs.Sizes.{page_words};
-ghost use Rattle.solo.specs.Solo.{source_words, page_input, stored, leaving_of, called};
+ghost use Rattle.solo.specs.Solo.{source_words, page_input, pte_put, stored, leaving_of, called};
 
 use crate::answers::Answers;
 use crate::one_core::OneCore;
@@ -141,8 +140,7 @@ impl OneCore {
         ensures { self.new ≡ called self.old call.now }
     {
         self.monitor.begin(0, call, &mut self.begun);
-        let mode = self.monitor.modes()[0];
-        let places = places_read(&self.config, &self.memory, mode, call, &self.begun);
+        let places = places_read(&self.config, &self.memory, call, &self.begun);
         let done = self.begun.reply.is_ok();
         let at = self.answers.len() + places.len();
         let input = input_of(&self.config, &self.memory, call, done, at);

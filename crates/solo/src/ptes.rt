@@ -1,32 +1,24 @@
 //! The page-table entries (ptes) that a call reads.
 
-ghost use Rattle.std.specs.Prelude.{◌≡◌, ◌<◌, ◌≤◌, [], None, is_some, if◌then◌else◌};
+ghost use Rattle.std.specs.Prelude.{◌≡◌, ◌<◌, ◌≤◌, [], if◌then◌else◌};
 ghost use Rattle.mon_types.specs.Shape.{page_total};
-ghost use Rattle.mon_types.specs.Replies.{is_done};
-ghost use Rattle.mon_model.specs.Early.{early};
-ghost use Rattle.sv39_pte.specs.Tables.{path_below};
-ghost use Rattle.mon_enclaves.specs.ByWords.{table_path};
+ghost use Rattle.dram_map.specs.Words.{word_at};
+ghost use Rattle.sv39_pte.specs.Tables.{path_by};
+ghost use Rattle.mon_enclaves.specs.LoadReply.{call_path};
 ghost use Rattle.lock_plan.specs.Plan.{first_enclave};
-ghost use Rattle.mon_calls.specs.Replied.{replied};
-ghost use Rattle.solo.specs.Ptes.{path_in};
-ghost use Rattle.solo.specs.PtesHeld.{places_held, ArePlaces};
 
 use arrayvec::ArrayVec;
 use dram_map::Memory;
-use lock_plan::Held;
-use mon_calls::{decide, enclave_held};
+use mon_enclaves::{address_of, path_length};
 use mon_seq::Begun;
-use mon_types::{Call, Config, Enclave, Mode, Reply};
+use mon_types::{Call, Config};
 use sv39_pte::{pte_place, table_led_to};
-
-/// How many ptes the path of a page or a reserved page has.
-const LEAF_PATH: u8 = 3;
 
 /// The places of so many ptes on an address's path, from the root on this page down. A pte that leads to
 /// no table is the last.
 fn path(config: &Config, memory: &Memory, root: u16, va: u64, count: u8) -> ArrayVec<u64, 3>
     requires { count ≤ 3 }
-    ensures { result.items ≡ path_below config.now memory.now va count root }
+    ensures { result.items ≡ path_by config.now (word_at memory.now) va 2 count root }
 {
     let mut places = ArrayVec::new();
     let mut page = root;
@@ -41,36 +33,6 @@ fn path(config: &Config, memory: &Memory, root: u16, va: u64, count: u8) -> Arra
     places
 }
 
-/// The same from the root of an enclave down, where the call was not refused before.
-fn path_unless_refused(
-    reply: &Reply,
-    config: &Config,
-    memory: &Memory,
-    enclave: &Enclave,
-    va: u64,
-    count: u8,
-) -> ArrayVec<u64, 3>
-    requires { count ≤ 3 }
-    ensures { result.items ≡ (if is_done reply.now then path_in config.now memory.now enclave.now va count else []) }
-{
-    match reply {
-        Reply::Ok { .. } => path(config, memory, enclave.root.unwrap_or(0), va, count),
-        _ => ArrayVec::new(),
-    }
-}
-
-/// How many ptes the path of a table of this level has.
-fn path_of_table(level: u64) -> u8
-    ensures count { result ≡ table_path level }
-    ensures few { result ≤ 3 }
-{
-    match level {
-        2 => 0,
-        1 => 1,
-        _ => 2,
-    }
-}
-
 /// The number of a page of DRAM.
 pub fn page_number(config: &Config, page: u64) -> u16
     requires { page < page_total config.now }
@@ -81,62 +43,21 @@ pub fn page_number(config: &Config, page: u64) -> u16
     page as u16
 }
 
-/// The places of so many ptes on an address's path from the root of the enclave that is held down, where the
-/// records that are held do not refuse the call.
-fn path_held(
-    config: &Config,
-    memory: &Memory,
-    mode: Mode,
-    call: &Call,
-    held: &Held,
-    va: u64,
-    count: u8,
-) -> ArrayVec<u64, 3>
-    requires early { early config.now mode call.now ≡ None }
-    requires count { count ≤ 3 }
-    ensures { result.items ≡ (if is_done (replied config.now mode call.now held.now []) then path_in config.now memory.now (first_enclave held.now) va count else []) }
-{
-    let reply = decide(config, 0, mode, call, held, &[]);
-    path_unless_refused(&reply, config, memory, &enclave_held(held), va, count)
-}
-
-/// The places of the ptes that a call which was not refused early reads.
-fn places_held(
-    config: &Config,
-    memory: &Memory,
-    mode: Mode,
-    call: &Call,
-    held: &Held,
-) -> ArrayVec<u64, 3>
-    requires { early config.now mode call.now ≡ None }
-    ensures { result.items ≡ places_held config.now mode memory.now call.now held.now }
-{
-    match *call {
-        Call::LoadTable { va, level, .. } => {
-            path_held(config, memory, mode, call, held, va, path_of_table(level))
-        }
-        Call::LoadPage { va, .. } | Call::Reserve { va, .. } => {
-            path_held(config, memory, mode, call, held, va, LEAF_PATH)
-        }
-        _ => ArrayVec::new(),
-    }
-}
-
-/// The places of the ptes that a call of core 0 in this mode reads, which was begun: none where it is refused
-/// early.
+/// The places of the ptes that a call reads which was begun: those on its path from the root of its enclave
+/// down, where it goes on to them.
 pub fn places_read(
     config: &Config,
     memory: &Memory,
-    mode: Mode,
     call: &Call,
     begun: &Begun,
 ) -> ArrayVec<u64, 3>
-    requires { begun.now.is_early ≡ is_some (early config.now mode call.now) }
-    ensures { ArePlaces config.now mode memory.now call.now begun.now result.items }
+    ensures { result.items ≡ (if begun.now.reads_ptes then call_path config.now (word_at memory.now) (first_enclave begun.now.held) call.now else []) }
 {
-    if begun.is_early {
-        ArrayVec::new()
-    } else {
-        places_held(config, memory, mode, call, &begun.held)
+    if !begun.reads_ptes {
+        return ArrayVec::new();
+    }
+    match begun.held.first_enclave().root {
+        None => ArrayVec::new(),
+        Some(root) => path(config, memory, root, address_of(call), path_length(call)),
     }
 }

@@ -1,10 +1,9 @@
 -- Where ptes stand in tables on pages of DRAM, after the RISC-V Privileged ISA, "Sv39: Page-Based 39-bit
 -- Virtual-Memory System"; and the ptes that the monitor writes, which are this project's own.
-use Rattle.std.specs.Prelude.{ℕ, zero, suc, ◌+◌, ◌-◌, ◌*◌, ◌/◌, ◌%◌, ◌^◌, Bool, ◌==◌, ◌||◌, if◌then◌else◌, List, [], ◌∷◌, Option}
+use Rattle.std.specs.Prelude.{ℕ, zero, suc, ◌+◌, ◌-◌, ◌*◌, ◌/◌, ◌%◌, ◌^◌, Bool, ◌==◌, ◌||◌, if◌then◌else◌, List, [], ◌∷◌, length, slice_get, Option, Some, None}
 use Rattle.mon_types.specs.Shape.{Shape}
 use Rattle.mon_types.specs.Sizes.{page_words}
 use Rattle.dram_map.specs.Addresses.{first_word, frame_of, is_dram_frame, page_in_frame, page_of_frame}
-use Rattle.dram_map.specs.Words.{word_at}
 use Rattle.sv39_pte.specs.Pte.{ppn_of}
 
 -- ---- where a pte stands
@@ -43,13 +42,14 @@ path_by shape word va level (suc count) page =
     pte_place page level va
     ∷ (if leads_to_table shape pte then path_by shape word va (level - 1) count (page_led_to pte) else [])
 
--- the same in DRAM
-abbrev pub path_from : Shape → List ℕ → ℕ → ℕ → ℕ → ℕ → List ℕ
-path_from shape words va level count page = path_by shape (word_at words) va level count page
+-- the same from a root down, whose level is 2; without a root there is none
+abbrev pub path_below : Shape → (ℕ → ℕ) → ℕ → ℕ → Option ℕ → List ℕ
+path_below shape word va count None = []
+path_below shape word va count (Some root) = path_by shape word va 2 count root
 
--- the same from a root down, whose level is 2
-abbrev pub path_below : Shape → List ℕ → ℕ → ℕ → ℕ → List ℕ
-path_below shape words va count root = path_from shape words va 2 count root
+-- the last of these places, if there is one
+abbrev pub last_place : List ℕ → Option ℕ
+last_place places = slice_get places (length places - 1)
 
 -- ---- the ptes that the monitor writes
 

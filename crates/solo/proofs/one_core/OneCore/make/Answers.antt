@@ -1,8 +1,6 @@
-use Rattle.std.proofs.Common.{◌≡◌, ℕ, ◌+◌, Bool, true, cond, List, ◌++◌, length, map, Option, None, slice_index_or, refl, sym, ap, subst, ◌∙◌, arith}
+use Rattle.std.proofs.Common.{◌≡◌, ℕ, ◌+◌, Bool, true, false, cond, List, ◌++◌, length, map, Option, None, refl, sym, ap, subst, ◌∙◌, arith}
 use Rattle.mon_types.specs.Shape.{Shape}
 use Rattle.mon_types.specs.Replies.{is_done}
-use Rattle.mon_types.specs.declared.thread.Mode.{Mode}
-use Rattle.mon_types.specs.declared.thread.Mode.TheVariants as modes
 use Rattle.mon_model.specs.State.{State}
 use Rattle.mon_model.specs.InRange.{IsInRange}
 use Rattle.mon_model.specs.Step.{reply_of, after}
@@ -16,7 +14,7 @@ use Rattle.mon_seq.specs.Sequential.{Sequential}
 use Rattle.mon_seq.specs.declared.begun.Begun.{Begun}
 use Rattle.solo.specs.Solo.{Core, source_words, page_input, stored, called}
 use Rattle.solo.proofs.Done.{done_in_range}
-use Rattle.solo.proofs.Made.{made_so}
+use Rattle.solo.proofs.Made.{made_so, refused_so}
 use Rattle.solo.proofs.Places.{places_are}
 use Rattle.solo.proofs.one_core.OneCore.make.Goals as goal
 
@@ -50,7 +48,7 @@ returns-then-done c =
     let change : c.core_change-change.result ≡ ok_change s 0 call = c.core_change-change.ensures.in_states s 0 ok.none (ap (λ (b : Begun). b.held) c.begin.ensures.begun) in
     made_so core call places page begun.reply begun.tried _ record {
       ok = done;
-      path = places_are core i.config _ call begun places c.self.invariant.machine (ap (λ (ms : List Mode). slice_index_or ms 0 modes.Os) (sym c.modes.ensures.list)) c.begin.ensures.begun c.places_read-places.ensures;
+      path = places_are core i.config call begun places c.self.invariant.machine c.begin.ensures.begun c.places_read-places.ensures;
       told = c.input_of-input.ensures ∙ ap (λ (b : Bool). cond b (page_input i.memory call (c.len.result + c.len-2.result)) None) c.if-done.true ∙ ap (page_input i.memory call) at;
       answers_so = ap (λ (b : Begun). b.reply) c.begin.ensures.begun;
       objects = ap (λ (b : Begun). b.tried) c.begin.ensures.begun;
@@ -63,5 +61,31 @@ returns-then-done c =
           ∙ ap (λ (shape : Shape). stored shape call places i.memory) (sym c.self.invariant.machine);
       answers = c.give_source.ensures
           ∙ ap (λ (l : List ℕ). l ++ source_words i.memory call) (c.give_ptes.ensures ∙ ap (λ (l : List ℕ). i.answers ++ map (word_at i.memory) l) c.deref.ensures.0);
+      log = c.add.ensures.events;
+    } ∙ ap (λ (x : Core). called x call) c.self.view_is
+
+pub returns-else-done : goal.returns-else-done
+returns-else-done c =
+    let i = c.self.inside in
+    let s : State = i.monitor.state in
+    let call = c.args.call.now in
+    let begun : Begun = c.begin.new.begun in
+    let places : List ℕ = c.places_read-places.result.items in
+    let page : Option PageInput = c.input_of-input.result in
+    let core : Core = record { state = s; made = i.made; contexts = i.contexts; words = i.memory; answers = i.answers; log = i.log.events } in
+    let refused : is_done (reply_of s 0 call) ≡ false = sym (ap (λ (b : Begun). is_done b.reply) c.begin.ensures.begun) ∙ sym c.is_ok-done.ensures ∙ c.if-done.false in
+    refused_so core call places page begun.reply begun.tried _ record {
+      refused = refused;
+      path = places_are core i.config call begun places c.self.invariant.machine c.begin.ensures.begun c.places_read-places.ensures;
+      told = c.input_of-input.ensures ∙ ap (λ (b : Bool). cond b (page_input i.memory call (c.len.result + c.len-2.result)) None) c.if-done.false;
+      answers_so = ap (λ (b : Begun). b.reply) c.begin.ensures.begun;
+      objects = ap (λ (b : Begun). b.tried) c.begin.ensures.begun;
+      state = ap (λ (m : Sequential). m.state) c.finish.ensures.after
+          ∙ ap (λ (ticket : ℕ). after s 0 call c.digest_in.result (ticket + 1)) c.self.invariant.tickets
+          ∙ ap (λ (digest : List ℕ). after s 0 call digest (i.made + 1)) c.digest_in.ensures;
+      made = refl;
+      contexts = refl;
+      words = refl;
+      answers = c.give_ptes.ensures ∙ ap (λ (l : List ℕ). i.answers ++ map (word_at i.memory) l) c.deref.ensures.0;
       log = c.add.ensures.events;
     } ∙ ap (λ (x : Core). called x call) c.self.view_is

@@ -1,15 +1,8 @@
--- The state after a call whose reply is given, and the calls whose replies need no items. This project's own.
-use Rattle.std.specs.Prelude.{◌≡◌, ℕ, ⊤, if◌then◌else◌, List, [], replicate}
-use Rattle.mon_types.specs.Replies.{is_done}
+-- A state without its loaded items, and the calls whose replies need none. This project's own.
+use Rattle.std.specs.Prelude.{◌≡◌, ⊤, [], replicate}
 use Rattle.mon_types.specs.declared.call.Call.{Call}
 use Rattle.mon_types.specs.declared.call.Call.TheVariants as calls
-use Rattle.mon_types.specs.declared.reply.Reply.{Reply}
 use Rattle.mon_model.specs.State.{State}
-use Rattle.mon_model.specs.Step.{effect}
-
--- what a call makes of a state where this is its reply; `after` is this for the state's own reply
-abbrev pub changed : Reply → State → ℕ → Call → List ℕ → ℕ → State
-changed reply s core call digest ticket = if is_done reply then effect s core call digest ticket else s
 
 -- the state with nothing loaded into any enclave slot
 unfoldable pub without_items : State → State
