@@ -11,10 +11,11 @@ is_access_size size = size == 1 || size == 2 || size == 4 || size == 8
 abbrev pub is_lane : ℕ → ℕ → Bool
 is_lane at size = nat_lt at 8 && is_access_size size && at % size == 0
 
--- the number that the first bytes of a word hold, so many of them, and the number that the others hold
+-- the number that the first bytes of a word hold, so many of them
 abbrev pub low_bytes : ℕ → ℕ → ℕ
 low_bytes word count = word % 2 ^ (8 * count)
 
+-- the number that the other bytes hold
 abbrev pub high_bytes : ℕ → ℕ → ℕ
 high_bytes word count = word / 2 ^ (8 * count)
 

@@ -172,6 +172,7 @@ own_lock = [] ∷ logged (block_3 1 1 0 ∷ met 2 1 1 1 0 ∷ []) ∷ []
 abbrev pub names_untried : Entry
 names_untried = entry 1 1 0 (calls.Block 3) (replies.ConcurrentCall r3 0 0) []
 
+-- so does core 1, while core 0 blocks the region
 abbrev pub untried_lock : List (List Event)
 untried_lock = logged (block_3 2 0 0 ∷ []) ∷ logged (names_untried ∷ []) ∷ []
 
@@ -218,20 +219,23 @@ no_period = (events.Touch 3 5 ∷ []) ∷ []
 abbrev pub late_touch : List (List Event)
 late_touch = logged (block_3 1 0 0 ∷ []) ∷ (logged (flushed 2 1 0 ∷ []) ++ events.Touch 3 0 ∷ []) ∷ []
 
--- `after_beginning`: the touch stands before the entry at which its period begins
+-- `after_beginning`: the entries up to the one at which the period begins
 abbrev pub behind_early : List Event
 behind_early = logged (block_3 1 0 0 ∷ flushed 2 0 1 ∷ free_3 3 0 2 ∷ assigned_to_os 4 0 3 ∷ [])
 
+-- the touch stands before them all
 abbrev pub early_touch : List (List Event)
 early_touch = (events.Touch 3 4 ∷ behind_early) ∷ []
 
--- `owner`: the OS touches a region of enclave 0
+-- `owner`: the entries by which region 3 becomes that of enclave 0
 abbrev pub before_foreign : List Event
 before_foreign = logged (block_3 1 0 0 ∷ flushed 2 0 1 ∷ free_3 3 0 2 ∷ create_0 4 0 3 ∷ assigned_to_0 5 0 4 ∷ [])
 
+-- its period
 abbrev pub foreign_period : Period
 foreign_period = record { region = 3; owner = owners.Enclave 0; since = 5; blocked = None; freed = None }
 
+-- the OS touches it
 abbrev pub foreign_touch : List (List Event)
 foreign_touch = (before_foreign ++ events.Touch 3 5 ∷ []) ∷ []
 

@@ -52,6 +52,7 @@ pub record AddsTried (front : List ObjectId) (x : ObjectId) : Type 0 where
   pub place : HasPlace (tried_set front) x
   pub added : add_tried x (tried_set front) ≡ tried_set (front ++ x ∷ [])
 
+-- so it is at each place of the list
 abbrev pub OneMoreIsTried : Type 0
 OneMoreIsTried =
     (s : State) (core : ℕ) (call : Call) (front : List ObjectId) (x : ObjectId) (rest : List ObjectId)

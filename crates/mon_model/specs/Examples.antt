@@ -47,33 +47,43 @@ largest = shape_of 8 64 16 4
 
 -- ---- objects, by the names that reports use
 
+-- enclave slot 0
 abbrev pub e0 : ObjectId
 e0 = objects.Enclave 0
 
+-- thread slot 0
 abbrev pub t0 : ObjectId
 t0 = objects.Thread 0
 
+-- core 0's flush clock
 abbrev pub c0 : ObjectId
 c0 = objects.Cell 0
 
+-- core 1's flush clock
 abbrev pub c1 : ObjectId
 c1 = objects.Cell 1
 
+-- region 1
 abbrev pub r1 : ObjectId
 r1 = objects.Region 1
 
+-- region 2
 abbrev pub r2 : ObjectId
 r2 = objects.Region 2
 
+-- region 3
 abbrev pub r3 : ObjectId
 r3 = objects.Region 3
 
+-- region 4
 abbrev pub r4 : ObjectId
 r4 = objects.Region 4
 
+-- region 5
 abbrev pub r5 : ObjectId
 r5 = objects.Region 5
 
+-- region 12
 abbrev pub r12 : ObjectId
 r12 = objects.Region 12
 
@@ -111,13 +121,15 @@ load e a b c d =
 abbrev pub finish : ℕ → ℕ → List Call
 finish e t = calls.LoadThread e t 65536 0 ∷ calls.Init e ∷ []
 
--- slot 0 with regions 2 to 5: up to ticket 14, to ticket 18 and to ticket 20
+-- slot 0 with regions 2 to 5: up to ticket 14
 abbrev pub given : List Call
 given = give 0 2 3 4 5
 
+-- its tables and its page: up to ticket 18
 abbrev pub loaded : List Call
 loaded = given ++ load 0 2 3 4 5
 
+-- its thread and its init: up to ticket 20
 abbrev pub finished : List Call
 finished = loaded ++ finish 0 0
 

@@ -70,6 +70,7 @@ abbrev pub without_own_region : State → Mode → ℕ → State
 without_own_region s modes.Os r = s
 without_own_region s (modes.Inside e t) r = with_enclave s e (loses_region (enclave_at s e) r)
 
+-- region r is assigned to the OS, or to the enclave in slot `to`
 abbrev pub assign_effect : State → ℕ → ℕ → ℕ → State
 assign_effect s r to k =
     if to == os_word

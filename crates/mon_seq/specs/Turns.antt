@@ -12,11 +12,12 @@ abbrev pub IsTurn : Shape → Turn → Type 0
 IsTurn shape (kinds.Call core call digest) = core < shape.cores
 IsTurn shape kinds.Skip = ⊤
 
--- the monitor after one turn, and after these turns in order
+-- the monitor after one turn
 abbrev pub then_turn : Sequential → Turn → Sequential
 then_turn m (kinds.Call core call digest) = then_call m core call digest
 then_turn m kinds.Skip = then_skip m
 
+-- the monitor after these turns in order
 abbrev pub then_turns : Sequential → List Turn → Sequential
 then_turns m turns = fold then_turn m turns
 

@@ -9,11 +9,12 @@ named_slot (calls.LoadThread e t entry sp) = e
 named_slot (calls.Enter e t) = e
 named_slot _ = 0
 
--- the entry and the stack pointer that a load_thread gives
+-- the entry that a load_thread gives
 abbrev pub named_entry : Call → ℕ
 named_entry (calls.LoadThread e t entry sp) = entry
 named_entry _ = 0
 
+-- the stack pointer that it gives
 abbrev pub named_sp : Call → ℕ
 named_sp (calls.LoadThread e t entry sp) = sp
 named_sp _ = 0

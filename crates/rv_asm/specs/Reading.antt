@@ -49,17 +49,19 @@ AreWordsOfAll (statement ∷ others) words = (first rest : List ℕ) × AreWords
 
 -- ---- labels
 
--- how many words a statement takes, by its name alone: a fault in an operand takes none away. A place to fill up to that is faulty takes none.
+-- how many words the filling up to a place takes: none where the place is faulty
 abbrev pub filled : Result ℕ AsmKind → ℕ
 filled (Ok count) = count
 filled (Err kind) = 0
 
+-- how many words a statement takes, by its name alone: a fault in an operand takes none away
 abbrev pub size_by : ℕ → ℕ → List ℕ → Option Name → ℕ
 size_by limit words operands None = 0
 size_by limit words operands (Some names.DoubleWord) = 2
 size_by limit words operands (Some names.At) = filled (fill_of limit words (operands_of operands))
 size_by limit words operands (Some name) = 1
 
+-- the same of the text of a statement
 unfoldable pub words_in : ℕ → ℕ → List ℕ → ℕ
 words_in limit words statement = size_by limit words (operands_text statement) (named (name_word statement))
 
@@ -88,6 +90,7 @@ abbrev pub is_elsewhere : ℕ → Option Spot → Bool
 is_elsewhere n None = false
 is_elsewhere n (Some spot) = not (spot.line == n)
 
+-- the label of this line, if it has one, stands at an earlier line too
 abbrev pub is_double : Spots → ℕ → Option (List ℕ) → Bool
 is_double spots n None = false
 is_double spots n (Some name) = is_elsewhere n (spots name)

@@ -107,21 +107,25 @@ fill_in limit words word = or_bad (number_of word) >>= fill limit words
 
 -- ---- how many operands there are
 
+-- no operand
 abbrev pub none_of : List (List ℕ) → Result (Unit {0}) AsmKind
 none_of [] = Ok tt
 none_of (a ∷ more) = Err kinds.BadOperand
 
+-- one operand
 abbrev pub one_of : List (List ℕ) → Result (List ℕ) AsmKind
 one_of [] = Err kinds.BadOperand
 one_of (a ∷ []) = Ok a
 one_of (a ∷ b ∷ more) = Err kinds.BadOperand
 
+-- two operands
 abbrev pub two_of : List (List ℕ) → Result (List ℕ × List ℕ) AsmKind
 two_of [] = Err kinds.BadOperand
 two_of (a ∷ []) = Err kinds.BadOperand
 two_of (a ∷ b ∷ []) = Ok (a, b)
 two_of (a ∷ b ∷ c ∷ more) = Err kinds.BadOperand
 
+-- three operands
 abbrev pub three_of : List (List ℕ) → Result (List ℕ × List ℕ × List ℕ) AsmKind
 three_of [] = Err kinds.BadOperand
 three_of (a ∷ []) = Err kinds.BadOperand
@@ -139,11 +143,12 @@ fill_of limit words operands = one_of operands >>= fill_in limit words
 abbrev pub upper_of : ℤ → ℤ
 upper_of n = if int_le (pos (2 ^ 19)) n then pos 4096 *ℤ n -ℤ pos (2 ^ 32) else pos 4096 *ℤ n
 
--- the most that the immediate of an operation may be, and the least
+-- the most that the immediate of an operation may be
 abbrev pub most_of : ImmForm → ℤ
 most_of (forms.Plain opcode funct3) = pos 2047
 most_of (forms.Shift opcode funct3 limit upper) = pos limit -ℤ pos 1
 
+-- the least that it may be
 abbrev pub least_of : ImmForm → ℤ
 least_of (forms.Plain opcode funct3) = neg_ℤ (pos 2048)
 least_of (forms.Shift opcode funct3 limit upper) = pos 0

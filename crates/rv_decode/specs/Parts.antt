@@ -64,4 +64,5 @@ j_immediate_of word =
 -- the immediate of a word of this form: of a shift, its number, below the form's limit
 abbrev pub HasOperand : ℕ → ImmForm → ℤ → Type 0
 HasOperand word (forms.Plain opcode funct3) imm = imm ≡ i_immediate_of word
-HasOperand word (forms.Shift opcode funct3 limit upper) imm = (imm ≡ pos (word / 2 ^ 20 % 2 ^ 6)) × (word / 2 ^ 20 % 2 ^ 6 < limit)
+HasOperand word (forms.Shift opcode funct3 limit upper) imm =
+    (imm ≡ pos (word / 2 ^ 20 % 2 ^ 6)) × (word / 2 ^ 20 % 2 ^ 6 < limit)

@@ -54,7 +54,8 @@ store_funct3 stores.Sh = 1
 store_funct3 stores.Sw = 2
 store_funct3 stores.Sd = 3
 
--- opcode and funct3 of an operation with an immediate; of a shift also the limit of its number and the word's six upper bits
+-- opcode and funct3 of an operation with an immediate; of a shift also the limit of its number and the word's six upper
+-- bits
 abbrev pub imm_form : ImmOp → ImmForm
 imm_form imms.Addi = forms.Plain 0x13 0
 imm_form imms.Slti = forms.Plain 0x13 2
@@ -178,7 +179,8 @@ IsInst (insts.Store op rs1 rs2 imm) = IsRegister rs1 × IsRegister rs2 × IsImme
 IsInst (insts.Imm op rd rs1 imm) = IsRegister rd × IsRegister rs1 × IsOperand (imm_form op) imm
 IsInst (insts.Reg op rd rs1 rs2) = IsRegister rd × IsRegister rs1 × IsRegister rs2
 IsInst (insts.Mul op rd rs1 rs2) = IsRegister rd × IsRegister rs1 × IsRegister rs2
-IsInst (insts.Amo op size aq rl rd rs1 rs2) = ((size ≡ 4) ⊎ (size ≡ 8)) × IsRegister rd × IsRegister rs1 × IsRegister rs2
+IsInst (insts.Amo op size aq rl rd rs1 rs2) =
+    ((size ≡ 4) ⊎ (size ≡ 8)) × IsRegister rd × IsRegister rs1 × IsRegister rs2
 IsInst (insts.Fence rd rs1 imm) = IsRegister rd × IsRegister rs1 × IsImmediate 2048 1 imm
 IsInst insts.Ecall = ⊤
 IsInst insts.Ebreak = ⊤

@@ -67,13 +67,19 @@ effect_of (insts.Upper op rd imm) pc registers = at_next pc rd (upper_value op p
 effect_of (insts.Jal rd imm) pc registers = at_target (plus pc imm) rd (after pc)
 effect_of (insts.Jalr rd rs1 imm) pc registers = at_target (plus (register registers rs1) imm / 2 * 2) rd (after pc)
 effect_of (insts.Branch op rs1 rs2 imm) pc registers =
-    if is_taken op (register registers rs1) (register registers rs2) then at_target (plus pc imm) 0 0 else at_next pc 0 0
+    if is_taken op (register registers rs1) (register registers rs2) then at_target (plus pc imm) 0 0
+    else at_next pc 0 0
 effect_of (insts.Load op rd rs1 imm) pc registers = loading op (plus (register registers rs1) imm) rd
-effect_of (insts.Store op rs1 rs2 imm) pc registers = storing op (plus (register registers rs1) imm) (register registers rs2)
-effect_of (insts.Imm op rd rs1 imm) pc registers = at_next pc rd (computed (operation_of op) (register registers rs1) (low_bits 64 imm))
-effect_of (insts.Reg op rd rs1 rs2) pc registers = at_next pc rd (computed op (register registers rs1) (register registers rs2))
-effect_of (insts.Mul op rd rs1 rs2) pc registers = at_next pc rd (multiplied op (register registers rs1) (register registers rs2))
-effect_of (insts.Amo op size aq rl rd rs1 rs2) pc registers = effects.Amo (register registers rs1) size op (register registers rs2) rd
+effect_of (insts.Store op rs1 rs2 imm) pc registers =
+    storing op (plus (register registers rs1) imm) (register registers rs2)
+effect_of (insts.Imm op rd rs1 imm) pc registers =
+    at_next pc rd (computed (operation_of op) (register registers rs1) (low_bits 64 imm))
+effect_of (insts.Reg op rd rs1 rs2) pc registers =
+    at_next pc rd (computed op (register registers rs1) (register registers rs2))
+effect_of (insts.Mul op rd rs1 rs2) pc registers =
+    at_next pc rd (multiplied op (register registers rs1) (register registers rs2))
+effect_of (insts.Amo op size aq rl rd rs1 rs2) pc registers =
+    effects.Amo (register registers rs1) size op (register registers rs2) rd
 effect_of (insts.Fence rd rs1 imm) pc registers = effects.Fence
 effect_of insts.Ecall pc registers = effects.Call
 effect_of insts.Ebreak pc registers = effects.Trap 3 pc

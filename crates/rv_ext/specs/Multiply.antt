@@ -9,7 +9,8 @@ abbrev pub upper : ℤ → ℕ
 upper product = low_bits 128 product / 2 ^ 64
 
 -- the quotient of two numbers of n bits, rounded towards zero, where `read` says whether they are signed.
--- By zero all bits are set. The signed quotient of the least number by -1 does not fit, and its low bits are the least number
+-- By zero all bits are set. The signed quotient of the least number by -1 does not fit, and its low bits are the least
+-- number
 abbrev pub quotient : (ℕ → ℕ → ℤ) → ℕ → ℕ → ℕ → ℕ
 quotient read n a b = if b == 0 then 2 ^ n - 1 else low_bits n (int_div (read n a) (read n b))
 

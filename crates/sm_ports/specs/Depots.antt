@@ -48,7 +48,8 @@ count_by false (Some bytes) own count = count
 
 -- a name's count in a `MapDepot` after its next call, which asks for `asked`
 abbrev pub count_after : MapDepot → List ℕ → List ℕ → ℕ
-count_after d asked name = count_by (is_listed (failures_of d)) (contents_of d asked) (contents_of d name) (faults_of d name)
+count_after d asked name =
+    count_by (is_listed (failures_of d)) (contents_of d asked) (contents_of d name) (faults_of d name)
 
 -- the depot whose reads a `DripDepot` cuts short
 abbrev pub whole_of : DripDepot → MapDepot

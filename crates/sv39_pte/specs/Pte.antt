@@ -63,6 +63,7 @@ is_pointer pte = not (is_readable pte) && not (is_executable pte)
 abbrev pub is_bad_pointer : ℕ → ℕ → Bool
 is_bad_pointer pte level = is_accessed pte || is_dirty pte || is_user pte || level == 0
 
+-- what a pte with R = 0 and X = 0 is
 abbrev pub pointer_kind : ℕ → ℕ → Kind
 pointer_kind pte level = if is_bad_pointer pte level then kinds.Fault else kinds.Pointer (ppn_of pte)
 
