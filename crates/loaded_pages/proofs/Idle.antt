@@ -1,5 +1,5 @@
 -- Regions that nobody has: no call makes one but by freeing it, and a region that is given away was one.
-use Rattle.std.proofs.Common.{◌≡◌, ◌⊎◌, inl, inr, ◌∙◌, ℕ, zero, suc, Bool, true, false, cond, eqb, Option, Some, None, List, [], ◌∷◌, ap, sym, refl, get_or, set}
+use Rattle.std.proofs.Common.{◌≡◌, ◌⊎◌, inl, inr, ◌∙◌, ℕ, Bool, true, false, cond, eqb, Option, Some, None, List, [], ◌∷◌, ap, sym, refl, get_or}
 use Rattle.std.proofs.lemmas.Bool.{cases_eq}
 use Rattle.mon_types.specs.Bits.{has_bit, with_bit}
 use Rattle.mon_types.specs.Owns.{os_word}

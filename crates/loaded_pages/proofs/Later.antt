@@ -13,11 +13,11 @@ use Rattle.mon_types.specs.declared.thread.Mode.{Mode}
 use Rattle.mon_types.specs.declared.thread.Mode.TheVariants as modes
 use Rattle.mon_types.specs.declared.call.Call.{Call}
 use Rattle.mon_types.specs.declared.call.Call.TheVariants as calls
-use Rattle.mon_model.specs.State.{State, IsWhole, region_at, enclave_at, loaded_at, mode_of, with_region}
+use Rattle.mon_model.specs.State.{State, IsWhole, region_at, enclave_at, loaded_at, mode_of}
 use Rattle.mon_types.specs.Bits.{has_bit}
 use Rattle.mon_types.specs.Replies.{is_done}
 use Rattle.mon_model.specs.RegionCalls.{is_loading, is_initialized, assign_reply, with_assigned, gains_region, loses_region}
-use Rattle.mon_model.specs.EnclaveCalls.{created, initialized, deleted}
+use Rattle.mon_model.specs.EnclaveCalls.{created, initialized}
 use Rattle.mon_model.specs.ThreadCalls.{with_thread_loaded, without_thread}
 use Rattle.mon_model.specs.MailCalls.{with_mailbox, sent}
 use Rattle.mon_types.specs.Owns.{os_word}
@@ -25,7 +25,7 @@ use Rattle.mon_model.specs.InRange.{IsInRange}
 use Rattle.mon_model.proofs.InRange.{in_range}
 use Rattle.mon_types.specs.Modes.{own_slot}
 use Rattle.mon_model.specs.EveryStep.{own_field, deleted_field}
-use Rattle.mon_model.specs.Step.{reply_of, held_reply, after, effect, without_own_region, with_deleted, regions_of}
+use Rattle.mon_model.specs.Step.{reply_of, held_reply, after, effect, without_own_region, regions_of}
 use Rattle.mon_facts.specs.Facts.{FactsHold}
 use Rattle.mon_model.proofs.Bits.{none-has, with-keeps}
 use Rattle.mon_model.proofs.Carried.{carried}

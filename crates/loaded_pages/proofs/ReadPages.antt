@@ -113,7 +113,8 @@ pub loaded_page_is_read : (shape : Shape) (logs : List (List Event)) (answers : 
 loaded_page_is_read shape logs answers k e va page src perms entry is legal read at q done =
     let h : HasPage (state_after shape logs (suc k)) (content_at shape logs answers (suc k)) e page (entry_words answers entry) =
     entry_at answers shape.cores k (start shape) zero_content (history logs) entry e va page src perms refl (history_of shape logs legal) legal.entries read (start_reached shape is) at q done in
-    let next : k + 1 ≡ suc k = omega arith in
-    (ap (λ n. loaded_page shape logs answers n e page) next
-    ∙ ap (λ b. cond b (Some (page_words_of (content_at shape logs answers (suc k)) page)) None) h.there ∙ ap Some h.holds,
-    h.count)
+    let next : k + 1 ≡ suc k = omega arith in (
+      ap (λ n. loaded_page shape logs answers n e page) next
+          ∙ ap (λ b. cond b (Some (page_words_of (content_at shape logs answers (suc k)) page)) None) h.there ∙ ap Some h.holds,
+      h.count,
+    )

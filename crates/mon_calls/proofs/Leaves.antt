@@ -8,7 +8,6 @@ use Rattle.mon_types.specs.Shape.{Shape, region_of_page}
 use Rattle.mon_types.specs.Bits.{has_bit, member, members}
 use Rattle.mon_types.specs.Owns.{os_word}
 use Rattle.mon_types.specs.Modes.{own_slot, own_thread}
-use Rattle.mon_types.specs.Replies.{is_done}
 use Rattle.mon_types.specs.Enclaves.{empty_enclave}
 use Rattle.mon_types.specs.Threads.{empty_thread}
 use Rattle.mon_types.specs.declared.region.Owner.TheVariants as owners
@@ -21,8 +20,6 @@ use Rattle.mon_types.specs.declared.thread.Mode.{Mode}
 use Rattle.mon_types.specs.declared.thread.Mode.TheVariants as modes
 use Rattle.mon_types.specs.declared.call.Call.{Call}
 use Rattle.mon_types.specs.declared.call.Call.TheVariants as calls
-use Rattle.mon_types.specs.declared.reply.Reply.{Reply}
-use Rattle.mon_types.specs.declared.object.ObjectId.{ObjectId}
 use Rattle.mon_types.specs.declared.object.ObjectId.TheVariants as objects
 use Rattle.mon_model.specs.State.{State, IsWhole, region_at, enclave_at, thread_at, flushed_at, mode_of, with_region, with_enclave, with_thread, with_flushed, with_slot}
 use Rattle.mon_model.specs.Early.{early}
@@ -34,12 +31,12 @@ use Rattle.mon_model.specs.ThreadCalls.{ready, with_thread_loaded, without_threa
 use Rattle.mon_model.specs.MailCalls.{with_mailbox, sent}
 use Rattle.mon_model.specs.Tries.{own_enclave, free_tries, held_tries, tries}
 use Rattle.mon_model.specs.EveryStep.{deleted_field}
-use Rattle.mon_model.specs.Step.{effect, reply_of, without_own_region, with_deleted, regions_of}
+use Rattle.mon_model.specs.Step.{effect, without_own_region, with_deleted, regions_of}
 use Rattle.mon_regions.specs.Named.{given_to}
 use Rattle.lock_plan.specs.EveryPlan.{tries_held}
 use Rattle.lock_plan.specs.declared.held.Held.{Held}
 use Rattle.lock_plan.specs.Objects.{IsCaller}
-use Rattle.lock_plan.specs.Plan.{first_region, first_enclave, second_enclave}
+use Rattle.lock_plan.specs.Plan.{first_enclave, second_enclave}
 use Rattle.lock_plan.specs.Records.{records_of}
 use Rattle.mon_calls.specs.OnHeld.{put_enclave, put_second, put_thread, put_region, put_cell}
 use Rattle.mon_calls.specs.Left.{delete_regions, left_by}

@@ -102,7 +102,11 @@ fn decide_in_range(config: &Config, mode: Mode, call: &Call, held: &Held, ptes: 
     match *call {
         Call::Block { .. } => decide_block(mode, &held.first_region()),
         Call::Free { .. } => decide_free_held(held),
-        Call::Assign { to, .. } => decide_assign_to(to, &held.first_enclave(), &held.first_region()),
+        Call::Assign { to, .. } => decide_assign_to(
+            to,
+            &held.first_enclave(),
+            &held.first_region(),
+        ),
         Call::Flush => decide_flush(),
         Call::RegionInfo { .. } => decide_region_info(&held.first_region()),
         Call::Create { .. } => decide_create(&held.first_enclave()),

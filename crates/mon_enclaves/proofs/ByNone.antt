@@ -6,7 +6,6 @@ use Rattle.mon_types.specs.declared.region.Region.{Region}
 use Rattle.mon_types.specs.declared.enclave.Enclave.{Enclave}
 use Rattle.mon_types.specs.declared.call.Call.{Call}
 use Rattle.mon_types.specs.declared.call.Call.TheVariants as calls
-use Rattle.mon_types.specs.declared.reply.Reply.{Reply}
 use Rattle.mon_types.specs.declared.reply.Reply.TheVariants as replies
 use Rattle.mon_model.specs.Loading.{takes_page, reserves_page}
 use Rattle.mon_model.specs.EnclaveCalls.{table_fits, leaf_fits, is_os_owned}

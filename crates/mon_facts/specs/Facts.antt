@@ -9,8 +9,6 @@ use Rattle.mon_types.specs.declared.region.Region.{Region}
 use Rattle.mon_types.specs.declared.region.Region.TheVariants as regions
 use Rattle.mon_types.specs.declared.enclave.Enclave.{Enclave}
 use Rattle.mon_types.specs.declared.enclave.Loaded.{Loaded}
-use Rattle.mon_types.specs.declared.enclave.LoadedKind.{LoadedKind}
-use Rattle.mon_types.specs.declared.enclave.LoadedKind.TheVariants as kinds
 use Rattle.mon_types.specs.declared.thread.Mode.TheVariants as modes
 use Rattle.mon_types.specs.declared.thread.ThreadState.{ThreadState}
 use Rattle.mon_types.specs.declared.thread.ThreadState.TheVariants as states

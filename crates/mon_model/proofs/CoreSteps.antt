@@ -1,5 +1,5 @@
 -- What a call that answers Ok does to modes and flush tickets, once over all calls.
-use Rattle.std.proofs.Common.{◌≡◌, ℕ, ◌<◌, Bool, true, false, ◌==◌, if◌then◌else◌, List, [], ◌∷◌, get_or, Some, None, refl, sym, ap, ◌∙◌, arith}
+use Rattle.std.proofs.Common.{◌≡◌, ℕ, ◌<◌, Bool, true, false, ◌==◌, if◌then◌else◌, List, get_or, Some, None, refl, sym, ap, ◌∙◌, arith}
 use Rattle.std.proofs.Math.ListN.{set}
 use Rattle.std.proofs.lemmas.List.{set-get_or}
 use Rattle.mon_types.specs.Shape.{Shape}
@@ -9,14 +9,13 @@ use Rattle.mon_types.specs.declared.call.Call.{Call}
 use Rattle.mon_types.specs.declared.call.Call.TheVariants as calls
 use Rattle.mon_types.specs.declared.reply.Reply.{Reply}
 use Rattle.mon_types.specs.declared.reply.Reply.TheVariants as replies
-use Rattle.mon_model.specs.State.{State, region_at, flushed_at, mode_of, with_region}
+use Rattle.mon_model.specs.State.{State, flushed_at, mode_of}
 use Rattle.mon_types.specs.Replies.{is_done}
 use Rattle.mon_types.specs.Owns.{os_word}
 use Rattle.mon_model.specs.Early.{is_unsupported, is_wrong_mode, is_bad_value, early}
 use Rattle.mon_model.proofs.InRange.{in_range}
-use Rattle.mon_model.specs.EnclaveCalls.{deleted}
 use Rattle.mon_model.specs.EveryStep.{chosen_field, own_field, deleted_field}
-use Rattle.mon_model.specs.Step.{without_own_region, with_deleted, regions_of, held_reply, effect, or_else, reply_of}
+use Rattle.mon_model.specs.Step.{regions_of, held_reply, effect, or_else, reply_of}
 use Rattle.mon_model.specs.OnCore.{mode_by, cell_by}
 use Rattle.mon_model.specs.RegionStep.{AreInsideSlots}
 use Rattle.mon_model.proofs.Writes.{at_any}

@@ -1,5 +1,5 @@
 -- What a call that answers Ok does to the stages of enclave slots, once over all calls.
-use Rattle.std.proofs.Common.{◌≡◌, ℕ, ◌≤◌, Bool, true, false, ◌==◌, if◌then◌else◌, List, [], ◌∷◌, length, get_or, refl, sym, ap, subst, ◌∙◌, inl, inr, arith}
+use Rattle.std.proofs.Common.{◌≡◌, ℕ, ◌≤◌, Bool, true, false, ◌==◌, if◌then◌else◌, List, length, get_or, refl, sym, ap, subst, ◌∙◌, inl, inr, arith}
 use Rattle.std.proofs.Math.ListN.{set}
 use Rattle.std.proofs.lemmas.List.{length-set, get_or-set_same, get_or-set_other, get_or_past}
 use Rattle.std.proofs.lemmas.Bool.{cases_eq, cases_lt, eq-eqb, ne_eqb}
@@ -11,13 +11,13 @@ use Rattle.mon_types.specs.declared.thread.Mode.{Mode}
 use Rattle.mon_types.specs.declared.thread.Mode.TheVariants as modes
 use Rattle.mon_types.specs.declared.call.Call.{Call}
 use Rattle.mon_types.specs.declared.call.Call.TheVariants as calls
-use Rattle.mon_model.specs.State.{State, region_at, enclave_at, mode_of, with_region, with_enclave}
+use Rattle.mon_model.specs.State.{State, enclave_at, mode_of, with_region, with_enclave}
 use Rattle.mon_types.specs.Owns.{os_word}
 use Rattle.mon_model.specs.RegionCalls.{is_initialized, loses_region, gains_region, with_assigned}
-use Rattle.mon_model.specs.EnclaveCalls.{created, initialized, deleted}
+use Rattle.mon_model.specs.EnclaveCalls.{created, initialized}
 use Rattle.mon_types.specs.Modes.{own_slot}
 use Rattle.mon_model.specs.EveryStep.{deleted_field}
-use Rattle.mon_model.specs.Step.{without_own_region, with_deleted, regions_of, effect}
+use Rattle.mon_model.specs.Step.{without_own_region, regions_of, effect}
 use Rattle.mon_model.specs.OnRegion.{initialized_by}
 use Rattle.mon_model.specs.RegionStep.{FlagsStage}
 use Rattle.mon_model.proofs.Writes.{at_any}

@@ -21,7 +21,7 @@ use Rattle.mon_types.specs.declared.call.Call.{Call}
 use Rattle.mon_types.specs.declared.call.Call.TheVariants as calls
 use Rattle.mon_types.specs.declared.reply.Reply.{Reply}
 use Rattle.mon_types.specs.declared.reply.Reply.TheVariants as replies
-use Rattle.mon_model.specs.State.{State, start, enclave_at, thread_at, region_at, loaded_at, mode_of, with_region}
+use Rattle.mon_model.specs.State.{State, start, enclave_at, thread_at, region_at, loaded_at, mode_of}
 use Rattle.mon_types.specs.Bits.{has_bit}
 use Rattle.mon_types.specs.Replies.{is_done, done_if}
 use Rattle.mon_types.specs.Owns.{os_word}
@@ -29,11 +29,11 @@ use Rattle.mon_model.specs.Early.{is_unsupported, is_wrong_mode, is_bad_value}
 use Rattle.mon_model.specs.RegionCalls.{is_empty, is_loading, is_initialized, gains_region, with_assigned}
 use Rattle.mon_model.specs.Loading.{is_next_page, takes_page, reserves_page, has_root, has_place_for_leaf, has_place_for_table}
 use Rattle.mon_model.specs.Measure.{Item, Create, Table, Page, Thread, Init, reserved_level, chain_start, extend, to_words, measure_created, measure_with}
-use Rattle.mon_model.specs.EnclaveCalls.{created, table_fits, leaf_fits, is_os_owned, load_table_reply, load_page_reply, reserve_reply, init_reply, deleted}
+use Rattle.mon_model.specs.EnclaveCalls.{created, table_fits, leaf_fits, is_os_owned, load_table_reply, load_page_reply, reserve_reply, init_reply}
 use Rattle.mon_model.specs.ThreadCalls.{is_no_state, load_thread_reply}
 use Rattle.mon_types.specs.Modes.{own_slot}
 use Rattle.mon_model.specs.EveryStep.{deleted_field}
-use Rattle.mon_model.specs.Step.{without_own_region, assign_effect, with_deleted, regions_of, held_reply, or_else, reply_of, effect, after}
+use Rattle.mon_model.specs.Step.{without_own_region, assign_effect, regions_of, held_reply, or_else, reply_of, effect, after}
 use Rattle.mon_model.specs.MeasureWords.{to_bytes-to_words}
 use Rattle.mon_model.specs.Digests.{chain_digest}
 use Rattle.mon_model.specs.Measured.{Answered, answered_in, items_by, items_after, items_of, chain_of, measure_of, IsMeasured}

@@ -1,7 +1,6 @@
 -- Records are gathered one object after the other.
-use Rattle.std.proofs.Common.{◌≡◌, ℕ, ◌+◌, ◌-◌, ◌<◌, true, Option, Some, None, IfSome, List, [], ◌∷◌, ◌++◌, length, slice_get, refl, sym, ap, ◌∙◌, subst, append-nil, length-append, arith}
+use Rattle.std.proofs.Common.{◌≡◌, ℕ, ◌-◌, ◌<◌, Option, Some, None, IfSome, List, [], ◌∷◌, ◌++◌, length, slice_get, refl, sym, ap, ◌∙◌, subst, append-nil, length-append, arith}
 use Rattle.mon_types.specs.Shape.{Shape}
-use Rattle.mon_types.specs.Modes.{own_slot, own_thread}
 use Rattle.mon_types.specs.declared.thread.Mode.{Mode}
 use Rattle.mon_types.specs.declared.thread.Mode.TheVariants as modes
 use Rattle.mon_types.specs.declared.call.Call.{Call}

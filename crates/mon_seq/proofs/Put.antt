@@ -1,11 +1,10 @@
 -- Records put back give the tables that a call leaves.
-use Rattle.std.proofs.Common.{◌≡◌, ℕ, zero, suc, ◌<◌, Bool, true, false, cond, Some, None, List, [], ◌∷◌, length, get_or, slice_set, refl, sym, ap, ◌∙◌, subst, inl, inr, arith}
+use Rattle.std.proofs.Common.{◌≡◌, ℕ, zero, suc, ◌<◌, Bool, true, cond, List, [], ◌∷◌, length, get_or, slice_set, refl, sym, ap, ◌∙◌, subst, inl, inr, arith}
 use Rattle.std.specs.List.{Contains}
 use Rattle.std.proofs.lemmas.List.{ext_get_or, get_or-set_same, get_or-set_other, get_or_past, length-set}
 use Rattle.std.proofs.lemmas.Bool.Decides.{eqb_tells, leb_tells}
-use Rattle.mon_types.specs.Shape.{Shape, page_total}
+use Rattle.mon_types.specs.Shape.{Shape}
 use Rattle.mon_types.specs.LimitLaws.{few_pages}
-use Rattle.mon_types.specs.Owns.{os_word}
 use Rattle.mon_types.specs.Replies.{is_done}
 use Rattle.mon_types.specs.Enclaves.{empty_enclave}
 use Rattle.mon_types.specs.Threads.{empty_thread}
@@ -15,21 +14,18 @@ use Rattle.mon_types.specs.declared.enclave.Enclave.{Enclave}
 use Rattle.mon_types.specs.declared.enclave.Loaded.{Loaded}
 use Rattle.mon_types.specs.declared.thread.Thread.{Thread}
 use Rattle.mon_types.specs.declared.thread.Mode.{Mode}
-use Rattle.mon_types.specs.declared.thread.Mode.TheVariants as modes
 use Rattle.mon_types.specs.declared.call.Call.{Call}
 use Rattle.mon_types.specs.declared.call.Call.TheVariants as calls
 use Rattle.mon_types.specs.declared.object.ObjectId.{ObjectId}
 use Rattle.mon_types.specs.declared.object.ObjectId.TheVariants as objects
 use Rattle.mon_model.specs.State.{State, IsWhole, region_at, enclave_at, thread_at, flushed_at, mode_of, loaded_at, with_region, with_enclave, with_thread, with_flushed}
 use Rattle.mon_model.specs.InRange.{IsInRange}
-use Rattle.mon_model.specs.EnclaveCalls.{deleted}
 use Rattle.mon_model.specs.Tries.{tries}
-use Rattle.mon_model.specs.Step.{without_own_region, with_deleted, regions_of, held_reply, effect, reply_of, after}
+use Rattle.mon_model.specs.Step.{regions_of, held_reply, effect, reply_of, after}
 use Rattle.mon_model.specs.EveryStep.{chosen_field, own_field, deleted_field, after_shape}
 use Rattle.mon_model.proofs.Whole.{stays}
 use Rattle.mon_model.specs.OnCore.{mode_by}
 use Rattle.mon_model.specs.Laws.{ChangesOnly}
-use Rattle.mon_model.proofs.Carried.{Carried, carried}
 use Rattle.mon_model.proofs.Changes.{changes}
 use Rattle.mon_model.proofs.CoreSteps.{modes_after}
 use Rattle.mon_facts.specs.Tables.{AreTables}

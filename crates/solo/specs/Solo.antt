@@ -1,6 +1,6 @@
 -- The machine of one core, said directly: what a script makes of it, line by line, with the sequential monitor for
 -- calls, one list of words for DRAM, and two counts for the budget. It has no moves and no locks. This project's own.
-use Rattle.std.specs.Prelude.{ℕ, ◌+◌, ◌-◌, ◌*◌, Bool, nat_lt, ◌||◌, if◌then◌else◌, List, [], ◌∷◌, ◌++◌, map, length, replicate, slice_index, Option, Some, None}
+use Rattle.std.specs.Prelude.{ℕ, ◌+◌, ◌-◌, Bool, nat_lt, ◌||◌, if◌then◌else◌, List, [], ◌∷◌, ◌++◌, map, length, replicate, slice_index, Option, Some, None}
 use Rattle.mon_types.specs.Shape.{Shape}
 use Rattle.mon_types.specs.declared.image.Start.{Start}
 use Rattle.mon_types.specs.declared.thread.Mode.{Mode}
@@ -11,7 +11,6 @@ use Rattle.mon_types.specs.declared.script.Line.{Line}
 use Rattle.mon_types.specs.declared.script.Line.TheVariants as lines
 use Rattle.mon_model.specs.State.{State, start, mode_of, enclave_at}
 use Rattle.mon_types.specs.Replies.{is_done}
-use Rattle.mon_types.specs.Modes.{own_thread}
 use Rattle.mon_model.specs.Step.{reply_of, after}
 use Rattle.mon_model.specs.Tries.{tries, tried_set}
 use Rattle.mon_model.specs.Measure.{page_digest}

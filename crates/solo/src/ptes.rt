@@ -45,12 +45,7 @@ pub fn page_number(config: &Config, page: u64) -> u16
 
 /// The places of the ptes that a call reads which was begun: those on its path from the root of its enclave
 /// down, where it goes on to them.
-pub fn places_read(
-    config: &Config,
-    memory: &Memory,
-    call: &Call,
-    begun: &Begun,
-) -> ArrayVec<u64, 3>
+pub fn places_read(config: &Config, memory: &Memory, call: &Call, begun: &Begun) -> ArrayVec<u64, 3>
     ensures { result.items ≡ (if begun.now.reads_ptes then call_path config.now (word_at memory.now) (first_enclave begun.now.held) call.now else []) }
 {
     if !begun.reads_ptes {

@@ -1,4 +1,4 @@
-use Rattle.std.proofs.Common.{◌≡◌, ◌<◌, ◌-◌, ◌++◌, length}
+use Rattle.std.proofs.Common.{◌≡◌, ◌-◌, ◌++◌, length}
 use Rattle.dram_map.specs.Words.{word_at}
 use Rattle.sv39_pte.specs.Tables.{path_by}
 use Rattle.solo.proofs.ptes.path.Given as goal

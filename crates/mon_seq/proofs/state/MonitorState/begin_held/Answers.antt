@@ -1,11 +1,7 @@
-use Rattle.std.proofs.Common.{◌≡◌, false, ◌&&◌, sym, ap, ◌∙◌}
-use Rattle.mon_types.specs.Shape.{Shape}
-use Rattle.mon_types.specs.Replies.{is_done}
+use Rattle.std.proofs.Common.{◌≡◌, sym, ap, ◌∙◌}
 use Rattle.mon_types.specs.declared.thread.Mode.{Mode}
-use Rattle.mon_types.specs.declared.reply.Reply.{Reply}
-use Rattle.mon_model.specs.State.{State, mode_of}
+use Rattle.mon_model.specs.State.{State}
 use Rattle.mon_model.specs.Early.{early}
-use Rattle.mon_model.specs.Step.{reply_of}
 use Rattle.mon_model.proofs.InRange.{not_refused}
 use Rattle.mon_enclaves.specs.LoadReply.{reads_ptes}
 use Rattle.mon_seq.proofs.Decided.{goes_on, records_decide}

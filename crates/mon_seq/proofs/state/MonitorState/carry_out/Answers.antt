@@ -7,7 +7,6 @@ use Rattle.mon_model.specs.OnCore.{mode_by}
 use Rattle.mon_model.specs.Step.{after}
 use Rattle.mon_model.specs.Tries.{tries}
 use Rattle.mon_model.proofs.Carried.{Carried, carried}
-use Rattle.lock_plan.specs.declared.held.Held.{Held}
 use Rattle.lock_plan.specs.Records.{records_of}
 use Rattle.mon_seq.specs.Put.{with_held, loaded_after, HasRoomFor}
 use Rattle.mon_seq.proofs.Gathered.{caller}

@@ -1,5 +1,4 @@
-use Rattle.std.proofs.Common.{◌≡◌, List, ℕ, sym, ap, ◌∙◌}
-use Rattle.mon_types.specs.Shape.{Shape}
+use Rattle.std.proofs.Common.{List, ℕ, sym, ap, ◌∙◌}
 use Rattle.mon_types.specs.Replies.{done_if}
 use Rattle.mon_model.specs.State.{State}
 use Rattle.mon_enclaves.specs.ByWords.{words_fit}
