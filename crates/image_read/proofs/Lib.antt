@@ -1,2 +1,2 @@
-pub mod Pieces
-pub mod Short
+mod Tallies
+mod Short

@@ -18,7 +18,7 @@ log2_of n =
     if n == 2 then 1 else if n == 4 then 2 else if n == 8 then 3 else if n == 16 then 4
     else if n == 32 then 5 else if n == 64 then 6 else 0
 
--- how every image begins
+-- how every image starts
 unfoldable pub magic : List ℕ
 magic = codes "SANCTUM"
 

@@ -1,7 +1,7 @@
 //! What is kept, beside the sink, of the bytes that were put.
 
 ghost use Rattle.std.specs.Prelude.{ℕ, List};
-ghost use Rattle.image_read.specs.Written.{Covers};
+ghost use Rattle.image_read.specs.Told.{Covers};
 
 use sha2::{Digest, Sha256};
 

@@ -6,13 +6,15 @@ ghost use Rattle.std.specs.Io.KnownBytes.{Appends};
 ghost use Rattle.sm_ports.specs.Causes.{HasCause};
 ghost use Rattle.sm_ports.specs.Contents.{AppendsPart};
 ghost use Rattle.image_read.specs.Image.{log2_of, head_text, start_text, segment_head, words_text, segment_text, body_text, image_text, IsShort, IsImage};
-ghost use Rattle.image_read.specs.Written.{Writes};
+ghost use Rattle.image_read.specs.Told.{Covers};
+ghost use Rattle.text_out.specs.Written.{Writes};
 
 use crate::tally::{NoTally, Tally};
 use byteorder::{ByteOrder, LittleEndian};
 use mon_types::{Config, Image, Segment, Start};
 use sha2::{Digest, Sha256};
-use sm_ports::{Failed, Sink, put_all};
+use sm_ports::{Failed, Sink};
+use text_out::put_piece;
 
 /// How many words are put as one piece.
 const BLOCK: usize = 512;
@@ -80,22 +82,24 @@ fn head_of_segment(segment: &Segment) -> [u8; 16]
 }
 
 /// Puts one piece of a text, and tells the tally once it was taken whole.
-fn put_piece<K: Sink, T: Tally>(bytes: &[u8], out: &mut K, tally: &mut T) -> Result<(), Failed>
-    ensures text { Writes (K.taken out.old) (K.taken out.new) (T.told tally.old) (T.told tally.new) result bytes.now }
+fn put_and_tell<K: Sink, T: Tally>(bytes: &[u8], out: &mut K, tally: &mut T) -> Result<(), Failed>
+    ensures text { Writes (K.taken out.old) (K.taken out.new) result bytes.now }
+    ensures tally { OnOk result (Covers (T.told tally.old) (T.told tally.new) bytes.now) }
     ensures cause { HasCause (K.faults out.old) (K.faults out.new) result }
 {
-    put_all(out, bytes)?;
+    put_piece(bytes, out)?;
     tally.tell(bytes);
     Ok(())
 }
 
 /// Puts the starts of the cores.
 fn put_starts<K: Sink, T: Tally>(starts: &[Start], out: &mut K, tally: &mut T) -> Result<(), Failed>
-    ensures text { Writes (K.taken out.old) (K.taken out.new) (T.told tally.old) (T.told tally.new) result (flat_map start_text starts.now) }
+    ensures text { Writes (K.taken out.old) (K.taken out.new) result (flat_map start_text starts.now) }
+    ensures tally { OnOk result (Covers (T.told tally.old) (T.told tally.new) (flat_map start_text starts.now)) }
     ensures cause { HasCause (K.faults out.old) (K.faults out.new) result }
 {
     for start in starts {
-        put_piece(&bytes_of_start(start), out, tally)?;
+        put_and_tell(&bytes_of_start(start), out, tally)?;
     }
     Ok(())
 }
@@ -103,18 +107,20 @@ fn put_starts<K: Sink, T: Tally>(starts: &[Start], out: &mut K, tally: &mut T) -
 /// Puts up to 512 words as one piece.
 fn put_block<K: Sink, T: Tally>(words: &[u64], out: &mut K, tally: &mut T) -> Result<(), Failed>
     requires { length words.now ≤ BLOCK }
-    ensures text { Writes (K.taken out.old) (K.taken out.new) (T.told tally.old) (T.told tally.new) result (words_text words.now) }
+    ensures text { Writes (K.taken out.old) (K.taken out.new) result (words_text words.now) }
+    ensures tally { OnOk result (Covers (T.told tally.old) (T.told tally.new) (words_text words.now)) }
     ensures cause { HasCause (K.faults out.old) (K.faults out.new) result }
 {
     let mut bytes = [0; 8 * BLOCK];
     let used = &mut bytes[..8 * words.len()];
     LittleEndian::write_u64_into(words, used);
-    put_piece(used, out, tally)
+    put_and_tell(used, out, tally)
 }
 
 /// Puts the words of a segment, block by block.
 fn put_words<K: Sink, T: Tally>(words: &[u64], out: &mut K, tally: &mut T) -> Result<(), Failed>
-    ensures text { Writes (K.taken out.old) (K.taken out.new) (T.told tally.old) (T.told tally.new) result (words_text words.now) }
+    ensures text { Writes (K.taken out.old) (K.taken out.new) result (words_text words.now) }
+    ensures tally { OnOk result (Covers (T.told tally.old) (T.told tally.new) (words_text words.now)) }
     ensures cause { HasCause (K.faults out.old) (K.faults out.new) result }
 {
     for block in words.chunks(BLOCK) {
@@ -130,10 +136,11 @@ fn put_segment<K: Sink, T: Tally>(
     tally: &mut T,
 ) -> Result<(), Failed>
     requires { IsShort segment.now }
-    ensures text { Writes (K.taken out.old) (K.taken out.new) (T.told tally.old) (T.told tally.new) result (segment_text segment.now) }
+    ensures text { Writes (K.taken out.old) (K.taken out.new) result (segment_text segment.now) }
+    ensures tally { OnOk result (Covers (T.told tally.old) (T.told tally.new) (segment_text segment.now)) }
     ensures cause { HasCause (K.faults out.old) (K.faults out.new) result }
 {
-    put_piece(&head_of_segment(segment), out, tally)?;
+    put_and_tell(&head_of_segment(segment), out, tally)?;
     put_words(segment.words.as_slice(), out, tally)
 }
 
@@ -144,7 +151,8 @@ fn put_segments<K: Sink, T: Tally>(
     tally: &mut T,
 ) -> Result<(), Failed>
     requires { AllByRecursion IsShort segments.now }
-    ensures text { Writes (K.taken out.old) (K.taken out.new) (T.told tally.old) (T.told tally.new) result (flat_map segment_text segments.now) }
+    ensures text { Writes (K.taken out.old) (K.taken out.new) result (flat_map segment_text segments.now) }
+    ensures tally { OnOk result (Covers (T.told tally.old) (T.told tally.new) (flat_map segment_text segments.now)) }
     ensures cause { HasCause (K.faults out.old) (K.faults out.new) result }
 {
     for segment in segments {
@@ -161,17 +169,18 @@ fn put_body<K: Sink, T: Tally>(
     tally: &mut T,
 ) -> Result<(), Failed>
     requires { IsImage version image.now }
-    ensures text { Writes (K.taken out.old) (K.taken out.new) (T.told tally.old) (T.told tally.new) result (body_text version image.now) }
+    ensures text { Writes (K.taken out.old) (K.taken out.new) result (body_text version image.now) }
+    ensures tally { OnOk result (Covers (T.told tally.old) (T.told tally.new) (body_text version image.now)) }
     ensures cause { HasCause (K.faults out.old) (K.faults out.new) result }
 {
     let head = head_of(version, &image.config, image.segments.len() as u16);
-    put_piece(&head, out, tally)?;
+    put_and_tell(&head, out, tally)?;
     put_starts(image.starts.as_slice(), out, tally)?;
     put_segments(image.segments.as_slice(), out, tally)
 }
 
 /// Writes the one text of version 1 of an image. Takes no memory. `Failed` comes only where the sink's
-/// count rose in this call; the sink has then taken a proper front of the text.
+/// count rose in this call; the sink has then taken a proper prefix of the text.
 pub fn write_image<K: Sink>(image: &Image, out: &mut K) -> Result<(), Failed>
     requires { IsImage 1 image.now }
     ensures ok { OnOk result (Appends (K.taken out.old) (K.taken out.new) (image_text 1 image.now)) }
@@ -182,7 +191,7 @@ pub fn write_image<K: Sink>(image: &Image, out: &mut K) -> Result<(), Failed>
 }
 
 /// Writes the one text of version 2 of an image, which ends with its digest. Takes no memory. `Failed`
-/// comes only where the sink's count rose in this call; the sink has then taken a proper front of the
+/// comes only where the sink's count rose in this call; the sink has then taken a proper prefix of the
 /// text.
 pub fn write_image_2<K: Sink>(image: &Image, out: &mut K) -> Result<(), Failed>
     requires { IsImage 2 image.now }
@@ -192,5 +201,5 @@ pub fn write_image_2<K: Sink>(image: &Image, out: &mut K) -> Result<(), Failed>
 {
     let mut hasher = Sha256::new();
     put_body(2, image, out, &mut hasher)?;
-    put_all(out, &hasher.finalize())
+    put_piece(&hasher.finalize(), out)
 }

@@ -8,7 +8,8 @@ use Rattle.mon_types.specs.declared.object.ObjectId.{ObjectId}
 use Rattle.hist.specs.declared.event.Entry.{Entry}
 use Rattle.hist.specs.History.{digest_of}
 use Rattle.hist.specs.Legal.{has_its_page}
-use Rattle.report.specs.Objects.{all_spaced, spaced, object_text, tried_text, digest_text}
+use Rattle.text_out.specs.Texts.{all_spaced, spaced, hex_text}
+use Rattle.report.specs.Objects.{object_text, tried_text}
 
 -- Ok, with the first `count` of the words
 unfoldable pub ok_text : ℕ → List ℕ → List ℕ
@@ -30,7 +31,7 @@ reply_text replies.Unsupported = codes "unsupported"
 
 -- the digest of the page, where the entry is a load_page that answered Ok
 unfoldable pub page_text : Entry → List ℕ
-page_text e = if has_its_page e then codes " page " ++ digest_text (digest_of e.page) else []
+page_text e = if has_its_page e then codes " page " ++ hex_text (digest_of e.page) else []
 
 -- the ticket, the core and the serial of a call
 unfoldable pub call_head : Entry → List ℕ

@@ -6,7 +6,7 @@ use Rattle.hist.specs.declared.event.Event.{Event}
 use Rattle.hist.specs.declared.event.Event.TheVariants as events
 use Rattle.hist.specs.declared.event.Why.TheVariants as whys
 use Rattle.hist.specs.Logged.{Logged}
-use Rattle.report.specs.Objects.{spaced}
+use Rattle.text_out.specs.Texts.{spaced}
 
 -- a stop at a line of the core's script, by a trap with its cause and value
 unfoldable pub trap_line : ℕ → ℕ → ℕ → List ℕ

@@ -3,4 +3,3 @@ pub mod Calls
 pub mod Events
 pub mod Tables
 pub mod Report
-pub mod Written

@@ -1,9 +1,7 @@
--- Numbers, objects and digests in the text of a report. All of it is this project's own format; the
--- decimal and hexadecimal digits are the usual ones.
+-- Objects and measurements in the text of a report. All of it is this project's own format.
 use Rattle.std.specs.Prelude.{ℕ, ◌+◌, List, [], ◌∷◌, ◌++◌, codes}
 use Rattle.std.specs.List.{flat_map}
 use Rattle.std.specs.Fmt.{decimal}
-use Rattle.hex.specs.Hex.{encode_lower}
 use Rattle.mon_types.specs.declared.region.Owner.{Owner}
 use Rattle.mon_types.specs.declared.region.Owner.TheVariants as owners
 use Rattle.mon_types.specs.declared.object.ObjectId.{ObjectId}
@@ -11,14 +9,7 @@ use Rattle.mon_types.specs.declared.object.ObjectId.TheVariants as objects
 use Rattle.mon_types.specs.declared.object.Tried.{Tried}
 use Rattle.mon_types.specs.Bits.{members}
 use Rattle.mon_model.specs.Measure.{to_bytes}
-
--- a number after a space
-abbrev pub spaced : ℕ → List ℕ
-spaced n = 32 ∷ decimal n
-
--- numbers, each after a space
-abbrev pub all_spaced : List ℕ → List ℕ
-all_spaced ns = flat_map spaced ns
+use Rattle.text_out.specs.Texts.{hex_text}
 
 -- an object: its kind's letter and its number, as e3, t12, r5, c0
 unfoldable pub object_text : ObjectId → List ℕ
@@ -59,13 +50,9 @@ tried_text t =
     members_text enclave_letter t.enclaves 8 ++ members_text thread_letter t.threads 16
     ++ members_text region_letter t.regions 64 ++ members_text cell_letter t.cells 16
 
--- a digest of 32 bytes: 64 hexadecimal digits, lower case
-abbrev pub digest_text : List ℕ → List ℕ
-digest_text bytes = encode_lower bytes
-
--- the four words of a measurement, as the digest of 32 bytes that they are
+-- the four words of a measurement, as the digest of 32 bytes that they are: 64 hexadecimal digits
 abbrev pub measure_text : List ℕ → List ℕ
-measure_text words = digest_text (to_bytes words)
+measure_text words = hex_text (to_bytes words)
 
 -- the texts of a list's items, of which each is given its number in the list, counted from i
 abbrev pub numbered : {X : Type 0} → (ℕ → X → List ℕ) → ℕ → List X → List ℕ

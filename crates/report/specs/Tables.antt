@@ -13,7 +13,8 @@ use Rattle.mon_types.specs.declared.thread.ThreadState.TheVariants as states
 use Rattle.mon_types.specs.declared.thread.Thread.{Thread}
 use Rattle.mon_types.specs.declared.thread.Mode.{Mode}
 use Rattle.mon_types.specs.declared.thread.Mode.TheVariants as modes
-use Rattle.report.specs.Objects.{spaced, all_spaced, owner_text, measure_text, numbered}
+use Rattle.text_out.specs.Texts.{spaced, all_spaced}
+use Rattle.report.specs.Objects.{owner_text, measure_text, numbered}
 
 -- the line of a region: free, owned, blocked or offered
 unfoldable pub region_line : ℕ → Region → List ℕ

@@ -4,13 +4,13 @@ ghost use Rattle.std.specs.Prelude.{◌≡◌, ◌≤◌, ◌+◌, ◌*◌, ◌�
 ghost use Rattle.mon_types.specs.Calls.{call_name, call_args};
 ghost use Rattle.hist.specs.Legal.{has_its_page};
 ghost use Rattle.hist.specs.Printing.{HasFewWords, IsPrintable};
-ghost use Rattle.report.specs.Objects.{all_spaced};
+ghost use Rattle.text_out.specs.Texts.{all_spaced};
 ghost use Rattle.report.specs.Calls.{call_head, call_line, page_text, reply_text, ok_text, concurrent_text};
 
-use crate::line::{LINE, Line};
 use crate::objects::{add_object, add_tried};
 use hist::Entry;
 use mon_types::{Call, ObjectId, Reply};
+use text_out::{LINE, Line};
 
 /// The beginning of the line: the ticket, the core and the serial.
 #[tactic(auto, unfolding(crate::specs::Calls::call_head))]

@@ -4,8 +4,8 @@ ghost use Rattle.std.specs.Prelude.{◌≡◌};
 ghost use Rattle.hist.specs.declared.event.Event.TheVariants as events;
 ghost use Rattle.report.specs.Events.{event_line, trap_line, limit_line, log_line};
 
-use crate::line::Line;
 use hist::{Entry, Event, Why};
+use text_out::Line;
 
 /// The line that begins the log of a core.
 #[tactic(auto, unfolding(crate::specs::Events::log_line))]

@@ -4,7 +4,6 @@
 
 mod calls;
 mod events;
-mod line;
 mod objects;
 mod print;
 mod tables;
@@ -12,5 +11,4 @@ mod tables;
 mod tests;
 mod whole;
 
-pub use line::{LINE, Line};
 pub use whole::report;

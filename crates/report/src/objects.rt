@@ -4,11 +4,10 @@ ghost use Rattle.std.specs.Prelude.{◌≡◌, ◌≤◌, ◌<◌, ◌+◌, ◌*
 ghost use Rattle.std.specs.Fmt.{decimal};
 ghost use Rattle.std.specs.List.{flat_map};
 ghost use Rattle.mon_types.specs.Bits.{has_bit, member};
-ghost use Rattle.report.specs.Objects.{object_text, owner_text, lettered, members_text, tried_text, enclave_letter, thread_letter, region_letter, cell_letter};
+ghost use Rattle.report.specs.Objects.{measure_text, object_text, owner_text, lettered, members_text, tried_text, enclave_letter, thread_letter, region_letter, cell_letter};
 
-use crate::line::{LINE, Line};
-use itoa::Buffer;
 use mon_types::{ObjectId, Owner, Tried};
+use text_out::{LINE, Line};
 
 /// A kind's letter and a number.
 fn add_lettered(line: &mut Line, letter: &str, n: u8)
@@ -89,17 +88,6 @@ fn contains(set: u64, i: u64) -> bool
     (set >> i) % 2 == 1
 }
 
-/// A number below a hundred.
-fn add_small(line: &mut Line, n: u64)
-    requires small { n < 100 }
-    requires room { length line.old + 2 ≤ LINE }
-    ensures text { line.new ≡ line.old ++ decimal n }
-    ensures len { length line.new ≤ length line.old + 2 }
-{
-    let mut buffer = Buffer::new();
-    line.text(buffer.format(n));
-}
-
 /// A number of a set, after its kind's letter, where it is in the set.
 fn add_member(line: &mut Line, letter: &str, set: u64, i: u64)
     requires letter { length letter.now ≡ 2 }
@@ -110,7 +98,7 @@ fn add_member(line: &mut Line, letter: &str, set: u64, i: u64)
 {
     if contains(set, i) {
         line.text(letter);
-        add_small(line, i);
+        line.small(i);
     }
 }
 
@@ -137,4 +125,15 @@ pub fn add_tried(line: &mut Line, tried: &Tried)
     add_members(line, of_thread(), u64::from(tried.threads), 16);
     add_members(line, of_region(), tried.regions, 64);
     add_members(line, of_cell(), u64::from(tried.cells), 16);
+}
+
+/// Adds the 32 bytes of a measurement's words, the lowest byte of each first, as 64 hexadecimal digits.
+pub fn add_measure(line: &mut Line, words: &[u64; 4])
+    requires { length line.old + 64 ≤ LINE }
+    ensures text { line.new ≡ line.old ++ measure_text words.now }
+    ensures len { length line.new ≡ length line.old + 64 }
+{
+    for word in words {
+        line.hex(&word.to_le_bytes());
+    }
 }

@@ -3,16 +3,16 @@
 ghost use Rattle.std.specs.Prelude.{ℕ, List};
 ghost use Rattle.sm_ports.specs.Causes.{HasCause};
 ghost use Rattle.report.specs.Objects.{numbered};
-ghost use Rattle.report.specs.Written.{Writes};
+ghost use Rattle.text_out.specs.Written.{Writes};
 ghost use Rattle.report.specs.Events.{event_line, log_text};
 ghost use Rattle.report.specs.Tables.{region_line, mailbox_line, held_slot_text, enclave_text, thread_text};
 
 use crate::events::{line_of_event, line_of_log};
-use crate::line::Line;
 use crate::tables::{line_of_enclave, line_of_mailbox, line_of_region, line_of_thread};
 use hist::{Event, Log};
 use mon_types::{Enclave, Mailbox, Region, Stage, Thread};
-use sm_ports::{Failed, Sink, put_all};
+use sm_ports::{Failed, Sink};
+use text_out::put_line;
 
 /// An item of a list that a report prints.
 pub trait Print {
@@ -23,14 +23,6 @@ pub trait Print {
     fn print<K: Sink>(&self, number: usize, out: &mut K) -> Result<(), Failed>
         ensures lines { Writes (K.taken out.old) (K.taken out.new) result (text number self.now) }
         ensures cause { HasCause (K.faults out.old) (K.faults out.new) result };
-}
-
-/// Puts a line as one piece.
-pub fn put_line<K: Sink>(line: &Line, out: &mut K) -> Result<(), Failed>
-    ensures line { Writes (K.taken out.old) (K.taken out.new) result line.now }
-    ensures cause { HasCause (K.faults out.old) (K.faults out.new) result }
-{
-    put_all(out, line.as_slice())
 }
 
 /// Puts the lines of each item, in order.

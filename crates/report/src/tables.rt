@@ -7,9 +7,9 @@ ghost use Rattle.mon_types.specs.declared.thread.ThreadState.TheVariants as stat
 ghost use Rattle.mon_types.specs.declared.thread.Mode.TheVariants as modes;
 ghost use Rattle.report.specs.Tables.{region_line, mailbox_head, mailbox_line, stage_text, enclave_head, enclave_line, state_line, core_line};
 
-use crate::line::{LINE, Line};
-use crate::objects::add_owner;
+use crate::objects::{add_measure, add_owner};
 use mon_types::{Enclave, Mailbox, Mode, Owner, Region, Stage, ThreadState};
+use text_out::{LINE, Line};
 
 #[tactic(auto, unfolding(crate::specs::Tables::region_line))]
 fn line_of_free(r: usize) -> Line
@@ -123,7 +123,7 @@ fn line_of_full(e: usize, m: u64, from: u8, words: &[u64; 4], measure: &[u64; 4]
     line.number(u64::from(from));
     line.all_spaced(words);
     line.text(" ");
-    line.measure(measure);
+    add_measure(&mut line, measure);
     line.text("\n");
     line
 }
@@ -183,7 +183,7 @@ pub fn line_of_enclave(e: usize, enclave: &Enclave) -> Line
     line.text(" threads ");
     line.number(u64::from(enclave.threads));
     line.text(" measure ");
-    line.measure(&enclave.measure);
+    add_measure(&mut line, &enclave.measure);
     line.text("\n");
     line
 }

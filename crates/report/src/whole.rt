@@ -8,16 +8,16 @@ ghost use Rattle.hist.specs.Printing.{ArePrintable};
 ghost use Rattle.sm_ports.specs.Causes.{HasCause};
 ghost use Rattle.sm_ports.specs.Contents.{AppendsPart};
 ghost use Rattle.report.specs.Tables.{core_lines};
-ghost use Rattle.report.specs.Written.{Writes};
+ghost use Rattle.text_out.specs.Written.{Writes};
 ghost use Rattle.report.specs.Report.{title_line, machine_line, end_line, head_text, calls_text, opening_text, slots_text, tables_text, records_text, report_text, HasAllCores};
 
 use crate::calls::line_of_call;
-use crate::line::Line;
-use crate::print::{put_each, put_line};
+use crate::print::put_each;
 use crate::tables::line_of_core;
 use hist::{Finished, Log, Merge};
 use mon_types::{Config, Mode};
-use sm_ports::{Failed, Sink, put_all};
+use sm_ports::{Failed, Sink};
+use text_out::{Line, put_line, put_piece};
 
 #[tactic(auto, unfolding(crate::specs::Report::title_line))]
 fn title() -> &'static [u8]
@@ -55,7 +55,7 @@ fn put_head<K: Sink>(config: &Config, out: &mut K) -> Result<(), Failed>
     ensures lines { Writes (K.taken out.old) (K.taken out.new) result (head_text config.now) }
     ensures cause { HasCause (K.faults out.old) (K.faults out.new) result }
 {
-    put_all(out, title())?;
+    put_piece(title(), out)?;
     put_line(&line_of_machine(config), out)
 }
 
@@ -131,12 +131,12 @@ fn put_report<K: Sink>(finished: &Finished, out: &mut K) -> Result<(), Failed>
 {
     put_opening(finished, out)?;
     put_records(finished, out)?;
-    put_all(out, end())
+    put_piece(end(), out)
 }
 
 /// Writes the report of a finished run, each line as one piece; the calls of all cores come by ticket.
 /// Takes no memory. `Failed` comes only where the sink's
-/// count of faults rose; the sink has then taken a proper front of the report.
+/// count of faults rose; the sink has then taken a proper prefix of the report.
 pub fn report<K: Sink>(finished: &Finished, out: &mut K) -> Result<(), Failed>
     requires cores { HasAllCores finished.now }
     requires printable { ArePrintable (events_of finished.now.logs) }

@@ -120,7 +120,7 @@ pub record IsPadded (text operand : List ℕ) : Type 0 where
 abbrev pub ArePadded : List ℕ → List (List ℕ) → Type 0
 ArePadded text [] = ⊥
 ArePadded text (operand ∷ []) = IsPadded text operand
-ArePadded text (operand ∷ next ∷ operands) = (front rest : List ℕ) × (text ≡ front ++ 44 ∷ rest) × IsPadded front operand × ArePadded rest (next ∷ operands)
+ArePadded text (operand ∷ next ∷ operands) = (first rest : List ℕ) × (text ≡ first ++ 44 ∷ rest) × IsPadded first operand × ArePadded rest (next ∷ operands)
 
 -- nothing, or these operands behind blanks, at least one, and all that there are
 abbrev pub AreBehind : List ℕ → List (List ℕ) → Type 0

@@ -1,4 +1,4 @@
--- Reading a text line by line from the front, with the first fault that is met. All of it is this project's own.
+-- Reading a text line by line from its start, with the first fault that is met. All of it is this project's own.
 use Rattle.std.specs.Prelude.{◌≡◌, ℕ, ◌+◌, ◌/◌, ◌%◌, ◌^◌, nat_lt, Bool, false, not, ◌==◌, if◌then◌else◌, List, [], ◌∷◌, ◌++◌, length, replicate, Option, Some, None, Result, Ok, Err, ⊤}
 use Rattle.std.specs.List.{list_all}
 use Rattle.std.specs.Map.{lookup}

@@ -18,6 +18,7 @@ use Rattle.sanctum.specs.declared.status.Status.TheVariants as answers
 use Rattle.sanctum.specs.Packing.{word_limit}
 use Rattle.sanctum.specs.Faults.{fault_line}
 use Rattle.sanctum.specs.Headline.{HasFirstAsmFault, IsPacked, Says, IsPackText, Prints, Ends}
+use Rattle.text_in.proofs.Files.{cut_same, whole_file}
 use Rattle.sanctum.proofs.Answered.{ends_as}
 
 -- what words are packed as, the program writes
@@ -57,19 +58,7 @@ unfolding statements_of
 long_text limit bytes lt = rw (lt-ltb most_bytes (length bytes) lt) refl
 
 cut_text : (limit : ℕ) (bytes : List ℕ) → statements_of limit (take (most_bytes + 1) bytes) ≡ statements_of limit bytes
-cut_text limit bytes =
-    elim (cases_lt most_bytes (length bytes)) [
-      | inl lt ↦ long_text limit (take (most_bytes + 1) bytes) (omega (arith, length-take (most_bytes + 1) bytes)) ∙ sym (long_text limit bytes lt)
-      | inr le ↦ ap (statements_of limit) (take_all (most_bytes + 1) bytes (omega arith))
-    ]
-
--- a text that is within the limit, cut off behind it, is the whole file
-whole_file : (bytes : List ℕ) → length (take (most_bytes + 1) bytes) ≤ most_bytes → take (most_bytes + 1) bytes ≡ bytes
-whole_file bytes le =
-    elim (cases_lt most_bytes (length bytes)) [
-      | inl lt ↦ absurd (omega (arith, length-take (most_bytes + 1) bytes))
-      | inr short ↦ take_all (most_bytes + 1) bytes (omega arith)
-    ]
+cut_text limit bytes = cut_same (statements_of limit) (Err (record { line = 0; kind = kinds.TooLong })) most_bytes bytes (long_text limit)
 
 cut_fault : (limit : ℕ) (bytes : List ℕ) (fault : AsmFault) → HasFirstAsmFault limit (take (most_bytes + 1) bytes) fault → HasFirstAsmFault limit bytes fault
 cut_fault limit bytes fault h = record {
@@ -80,7 +69,7 @@ cut_fault limit bytes fault h = record {
 read_output : (shape : Shape) (bytes text : List ℕ) → IsPacked shape (Some (take (most_bytes + 1) bytes)) text → IsPacked shape (Some bytes) text
 read_output shape bytes text p = record {
   words = p.words;
-  read = subst (λ (read : List ℕ). IsText (word_limit shape) read p.words) (whole_file bytes p.read.within) p.read;
+  read = subst (λ (read : List ℕ). IsText (word_limit shape) read p.words) (whole_file most_bytes bytes p.read.within) p.read;
   packed = p.packed;
 }
 

@@ -30,7 +30,7 @@ use Rattle.sanctum.specs.Faults.{fault_line}
 abbrev pub AreScript : Option (List ℕ) → List Line → Type 0
 AreScript told script = IfSome told (λ bytes. IsScript None bytes (script ∷ []))
 
--- the plain machine's core starts at the begin of DRAM, with stack pointer 0
+-- the plain machine's core starts at the start of DRAM, with stack pointer 0
 abbrev pub plain_start : Start
 plain_start = record { pc = dram_start; sp = 0 }
 
@@ -119,7 +119,7 @@ IsRefusal answers.WriteFault = ⊥
 IsRefusal answers.OutOfMemory = ⊤
 IsRefusal (answers.AsmRefused fault) = ⊤
 
--- The text was written whole, with the intended answer, or a proper front of it, with WriteFault.
+-- The text was written whole, with the intended answer, or a proper prefix of it, with WriteFault.
 abbrev pub Prints : Option (List ℕ) → Option (List ℕ) → List ℕ → Status → Status → Type 0
 Prints before after text intended result =
     ((result ≡ intended) × Appends before after text)

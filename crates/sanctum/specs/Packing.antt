@@ -16,11 +16,11 @@ paired [] = []
 paired (low ∷ []) = low ∷ []
 paired (low ∷ high ∷ more) = (low + 2 ^ 32 * high) ∷ paired more
 
--- every core starts at the begin of DRAM
+-- every core starts at the start of DRAM
 abbrev pub packed_start : Start
 packed_start = record { pc = dram_start; sp = 0 }
 
--- the words stand at the begin of DRAM; where there is none, there is no segment
+-- the words stand at the start of DRAM; where there is none, there is no segment
 abbrev pub packed_segments : List ℕ → List Segment
 packed_segments [] = []
 packed_segments (word ∷ words) = record { address = dram_start; words = paired (word ∷ words) } ∷ []

@@ -1,36 +1,29 @@
 -- The words of the command line. This project's own.
-use Rattle.std.specs.Prelude.{ℕ, ◌+◌, ◌-◌, ◌*◌, nat_le, ◌&&◌, List, [], ◌∷◌, Option, Some, None, if◌then◌else◌, codes, String, string_bytes}
+use Rattle.std.specs.Prelude.{ℕ, List, [], ◌∷◌, Option, Some, None, if◌then◌else◌, codes, String, string_bytes}
 use Rattle.std.specs.Option.{option_and_then, option_map}
 use Rattle.std.specs.Str.{bytes_eq}
 use Rattle.std.specs.Global.{Global}
 use Rattle.mon_types.specs.Shape.{Shape, shape_of, is_shape}
+use Rattle.text_in.specs.Numbers.{canonical_of, up_to}
 use Rattle.sanctum.specs.declared.words.Order.{Order}
 use Rattle.sanctum.specs.declared.words.Order.TheVariants as orders
 
+-- the name of the command that runs a script
 unfoldable pub script_word : List ℕ
 script_word = codes "script"
 
+-- the name of the command that makes an image
 unfoldable pub pack_word : List ℕ
 pack_word = codes "pack"
 
--- the decimal digit that a byte stands for
-abbrev pub digit_of : ℕ → Option ℕ
-digit_of byte = if nat_le 48 byte && nat_le byte 57 then Some (byte - 48) else None
-
--- the number of two decimal digits, of which the first is not 0
-abbrev pub two_digits : ℕ → ℕ → Option ℕ
-two_digits a b = if nat_le 49 a && nat_le a 57 && nat_le 48 b && nat_le b 57 then Some ((a - 48) * 10 + (b - 48)) else None
-
--- the number below 100 that a word is: decimal digits without a sign or a leading zero
+-- the number below 256 that a word is: decimal digits without a sign or a leading zero
 abbrev pub number_of : List ℕ → Option ℕ
-number_of [] = None
-number_of (a ∷ []) = digit_of a
-number_of (a ∷ b ∷ []) = two_digits a b
-number_of (a ∷ b ∷ c ∷ more) = None
+number_of word = up_to 255 (canonical_of word)
 
--- the size of a machine, where it is within the limits; none is 100 or more
+-- the size of a machine, where it is within the limits; none is 256 or more
 abbrev pub size_of : ℕ → ℕ → ℕ → ℕ → Option Shape
-size_of cores regions pages shift = if is_shape (shape_of cores regions pages shift) then Some (shape_of cores regions pages shift) else None
+size_of cores regions pages shift =
+    if is_shape (shape_of cores regions pages shift) then Some (shape_of cores regions pages shift) else None
 
 -- the size of a machine that four words say
 abbrev pub size_of_words : List ℕ → List ℕ → List ℕ → List ℕ → Option Shape

@@ -6,10 +6,10 @@ ghost use Rattle.sanctum.specs.Headline.{IsRefusal, Prints};
 ghost use Rattle.sanctum.specs.Faults.{kind_text, script_line_text, turns_over_text, not_built_text, script_fault_line, asm_kind_text, asm_line_text, asm_fault_line, fault_line};
 
 use crate::status::Status;
-use report::Line;
 use rv_asm::{AsmFault, AsmKind};
 use script_read::{LineKind, ScriptFault};
-use sm_ports::{Sink, put_all};
+use sm_ports::Sink;
+use text_out::{Line, put_line};
 
 /// A line with this text.
 fn line_with(text: &str) -> Line
@@ -131,7 +131,7 @@ pub fn refuse<K: Sink>(out: &mut K, status: Status) -> Status
     ensures prints { Prints (K.taken out.old) (K.taken out.new) (fault_line status) status result }
     ensures write_fault { result ≡ Status.WriteFault → Rose (K.faults out.old) (K.faults out.new) }
 {
-    match put_all(out, line_of(&status).as_slice()) {
+    match put_line(&line_of(&status), out) {
         Ok(()) => status,
         Err(_) => Status::WriteFault,
     }

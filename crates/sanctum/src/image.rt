@@ -46,7 +46,7 @@ fn pair_words(alloc: Global, words: &[u32]) -> Result<Items<u64>, AllocError>
     Ok(pairs)
 }
 
-/// The segment of the words at the begin of DRAM, where there are any.
+/// The segment of the words at the start of DRAM, where there are any.
 fn packed_segments(alloc: Global, words: &[u32]) -> Result<Items<Segment>, AllocError>
     ensures { IfOk result (λ segments. segments ≡ packed_segments words.now) }
 {
@@ -67,7 +67,7 @@ fn packed_starts(alloc: Global, cores: u8) -> Result<Items<Start>, AllocError>
     Ok(Items::from_vec(vec![in alloc; START; usize::from(cores)]?))
 }
 
-/// The image of a machine of this size with the words at the begin of DRAM, where every core starts.
+/// The image of a machine of this size with the words at the start of DRAM, where every core starts.
 pub fn packed_image(alloc: Global, config: Config, words: &[u32]) -> Result<Image, AllocError>
     requires { length words.now ≤ word_limit config }
     ensures image { IfOk result (λ image. image ≡ packed_image config words.now) }

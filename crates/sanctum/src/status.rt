@@ -17,7 +17,7 @@ pub enum Status {
     ScriptRefused(ScriptFault),
     /// The depot failed at a file that the words name.
     ReadFault,
-    /// The sink failed; it has a proper front of what was to be written.
+    /// The sink failed; it has a proper prefix of what was to be written.
     WriteFault,
     /// There was no memory.
     OutOfMemory,

@@ -41,7 +41,7 @@ pub fn sanctum<R: Threads + Sync, D: Depot, K: Sink, G: Gate>(
     ensures read_fault { result ≡ Status.ReadFault → IsSomeAnd (request_of words.now) (λ request. Rose (D.faults depot.old request.0) (D.faults depot.new request.0)) }
     ensures one_line { IsRefusal result → Appends (K.taken out.old) (K.taken out.new) (fault_line result) }
 
-    // A write fault comes only where the sink failed, which then has a proper front of what was to be written.
+    // A write fault comes only where the sink failed, which then has a proper prefix of what was to be written.
     ensures write_fault { result ≡ Status.WriteFault → Rose (K.faults out.old) (K.faults out.new) }
     ensures front { result ≡ Status.WriteFault → (intended : Status) × (text : List ℕ) × IsMeant (request_of words.now) (D.contents depot.old) intended text × AppendsPart (K.taken out.old) (K.taken out.new) text }
 

@@ -1,11 +1,12 @@
 //! The words of the command line.
 
-ghost use Rattle.std.specs.Prelude.{◌≡◌, ◌<◌, List, ℕ, IfSome};
+ghost use Rattle.std.specs.Prelude.{◌≡◌};
 ghost use Rattle.std.specs.Option.{option_map, option_and_then};
 ghost use Rattle.std.specs.Str.{bytes_eq};
-ghost use Rattle.sanctum.specs.Words.{script_word, pack_word, digit_of, two_digits, number_of, size_of, size_of_words, request_of};
+ghost use Rattle.sanctum.specs.Words.{script_word, pack_word, number_of, size_of, size_of_words, request_of};
 
 use mon_types::Config;
+use text_in::canonical_number;
 
 /// What is asked of a file.
 #[derive(Clone, Copy, Debug, PartialEq, Eq)]
@@ -38,34 +39,12 @@ fn is_pack(word: &str) -> bool
     word == "pack"
 }
 
-fn digit(byte: u8) -> Option<u8>
-    ensures { result ≡ digit_of byte }
-{
-    match byte {
-        b'0'..=b'9' => Some(byte - b'0'),
-        _ => None,
-    }
-}
-
-fn two_digits(a: u8, b: u8) -> Option<u8>
-    ensures { result ≡ two_digits a b }
-{
-    match (a, b) {
-        (b'1'..=b'9', b'0'..=b'9') => Some((a - b'0') * 10 + (b - b'0')),
-        _ => None,
-    }
-}
-
-/// The number below 100 that a word is: decimal digits without a sign or a leading zero. No number of
-/// the commands is larger.
+/// The number below 256 that a word is: decimal digits without a sign or a leading zero. No number of the
+/// commands is larger.
 fn number_of_word(word: &str) -> Option<u8>
     ensures { result ≡ number_of word.now }
 {
-    match word.as_bytes() {
-        [a] => digit(*a),
-        [a, b] => two_digits(*a, *b),
-        _ => None,
-    }
+    Some(canonical_number(word.as_bytes(), 255)? as u8)
 }
 
 /// The size of a machine that four words say, where it is within the limits.

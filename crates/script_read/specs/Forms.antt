@@ -1,5 +1,5 @@
 -- The first words of lines, and what follows them. All of it is this project's own.
-use Rattle.std.specs.Prelude.{ℕ, ◌-◌, ◌%◌, ◌^◌, nat_le, Bool, false, ◌==◌, ◌&&◌, if◌then◌else◌, List, [], ◌∷◌, codes, slice_index, Option, Some, None}
+use Rattle.std.specs.Prelude.{ℕ, ◌%◌, nat_le, Bool, false, ◌==◌, ◌&&◌, if◌then◌else◌, List, [], ◌∷◌, codes, slice_index, Option, Some, None}
 use Rattle.std.specs.List.{find, list_any}
 use Rattle.std.specs.Str.{bytes_eq}
 use Rattle.mon_types.specs.Calls.{call_name, call_of}

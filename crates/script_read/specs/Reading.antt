@@ -1,4 +1,4 @@
--- Reading a script line by line from the front, with the first fault that is met. All of it is this project's own.
+-- Reading a script line by line from its start, with the first fault that is met. All of it is this project's own.
 use Rattle.std.specs.Prelude.{ℕ, ◌+◌, ◌-◌, ◌^◌, nat_lt, ◌&&◌, if◌then◌else◌, List, [], ◌∷◌, ◌++◌, length, replicate, codes, Option, Some, None, Result, Ok, Err}
 use Rattle.std.specs.List.{list_all}
 use Rattle.std.specs.Option.{option_and_then, option_map, option_to_list, ok_or}

@@ -14,11 +14,11 @@ pub all_from : (p q : ℕ → Bool) (text : List ℕ) → ((b : ℕ) → p b ≡
 all_from p q [] f h = refl
 all_from p q (b ∷ bs) f h = let h2 = and_parts (p b) (list_all p bs) h in and_from (q b) (list_all q bs) (f b h2.0) (all_from p q bs f h2.1)
 
-pub all_both : (p : ℕ → Bool) (front back : List ℕ) → list_all p (front ++ back) ≡ true → (list_all p front ≡ true) × (list_all p back ≡ true)
-all_both p front back h = and_parts (list_all p front) (list_all p back) (sym (list_all-append p front back) ∙ h)
+pub all_both : (p : ℕ → Bool) (prefix back : List ℕ) → list_all p (prefix ++ back) ≡ true → (list_all p prefix ≡ true) × (list_all p back ≡ true)
+all_both p prefix back h = and_parts (list_all p prefix) (list_all p back) (sym (list_all-append p prefix back) ∙ h)
 
-pub all_append : (p : ℕ → Bool) (front back : List ℕ) → list_all p front ≡ true → list_all p back ≡ true → list_all p (front ++ back) ≡ true
-all_append p front back f b = list_all-append p front back ∙ and_from (list_all p front) (list_all p back) f b
+pub all_append : (p : ℕ → Bool) (prefix back : List ℕ) → list_all p prefix ≡ true → list_all p back ≡ true → list_all p (prefix ++ back) ≡ true
+all_append p prefix back f b = list_all-append p prefix back ∙ and_from (list_all p prefix) (list_all p back) f b
 
 not_not : (x : Bool) → x ≡ not (not x)
 not_not true = refl
@@ -46,7 +46,7 @@ pub cut_later : (p : ℕ → Bool) (b : ℕ) (bs : List ℕ) → p b ≡ false �
 cut_later p b bs h = (ap (λ (n : ℕ). take n (b ∷ bs)) (first_fails p b bs h), ap (λ (n : ℕ). drop n (b ∷ bs)) (first_fails p b bs h))
 
 -- the text is cut where a byte passes for the first time
-pub cut_is : (p : ℕ → Bool) (front rest : List ℕ) → NonePass p front → begins p rest ≡ true → (before_first p (front ++ rest) ≡ front) × (from_first p (front ++ rest) ≡ rest)
+pub cut_is : (p : ℕ → Bool) (prefix rest : List ℕ) → NonePass p prefix → begins p rest ≡ true → (before_first p (prefix ++ rest) ≡ prefix) × (from_first p (prefix ++ rest) ≡ rest)
 cut_is p [] [] none h = (refl, refl)
 cut_is p [] (b ∷ bs) none h = cut_here p b bs h
 cut_is p (b ∷ bs) rest none h =
@@ -77,11 +77,11 @@ cut_found p (b ∷ bs) =
 -- ---- up to the last byte that passes
 
 -- what stands behind the last byte of a text that passes
-record IsUpTo (p : ℕ → Bool) (text front : List ℕ) : Type 0 where
+record IsUpTo (p : ℕ → Bool) (text prefix : List ℕ) : Type 0 where
   after : List ℕ
   none : NonePass p after
-  ends_it : ends p front ≡ true
-  text_is : text ≡ front ++ after
+  ends_it : ends p prefix ≡ true
+  text_is : text ≡ prefix ++ after
 
 last_is : (p : ℕ → Bool) (text after : List ℕ) → ends p text ≡ true → NonePass p after → up_to_last p (text ++ after) ≡ text
 unfolding up_to_last
@@ -89,7 +89,7 @@ last_is p [] after e none = sym (none_last p after none)
 last_is p (b ∷ []) after e none = ap (kept (p b) b) (sym (none_last p after none)) ∙ rw e refl
 last_is p (b ∷ c ∷ bs) after e none = ap (kept (p b) b) (last_is p (c ∷ bs) after e none)
 
-one_before : (p : ℕ → Bool) (b : ℕ) (bs front : List ℕ) → IsUpTo p bs front → IsUpTo p (b ∷ bs) (kept (p b) b front)
+one_before : (p : ℕ → Bool) (b : ℕ) (bs prefix : List ℕ) → IsUpTo p bs prefix → IsUpTo p (b ∷ bs) (kept (p b) b prefix)
 one_before p b bs [] h =
     elim (cases_Bool (p b)) [
       | inl t ↦ rw t record { after = h.after; none = h.none; ends_it = t; text_is = ap (λ (x : List ℕ). b ∷ x) h.text_is }
@@ -107,7 +107,7 @@ unfolding up_to_last
 up_to p [] = record { after = []; none = refl; ends_it = refl; text_is = refl }
 up_to p (b ∷ bs) = one_before p b bs (up_to_last p bs) (up_to p bs)
 
-kept_begins : (p : ℕ → Bool) (b : ℕ) (front : List ℕ) → p b ≡ true → begins p (kept (p b) b front) ≡ true
+kept_begins : (p : ℕ → Bool) (b : ℕ) (prefix : List ℕ) → p b ≡ true → begins p (kept (p b) b prefix) ≡ true
 kept_begins p b [] t = rw t t
 kept_begins p b (c ∷ cs) t = t
 
@@ -153,11 +153,11 @@ is_trimmed p text =
     }
 
 -- what stands at the end of a text ends as the text does
-pub ends_behind : (p : ℕ → Bool) (front back : List ℕ) → ends p (front ++ back) ≡ true → ends p back ≡ true
+pub ends_behind : (p : ℕ → Bool) (prefix back : List ℕ) → ends p (prefix ++ back) ≡ true → ends p back ≡ true
 ends_behind p [] back h = h
-ends_behind p (b ∷ front) [] h = refl
+ends_behind p (b ∷ prefix) [] h = refl
 ends_behind p (b ∷ []) (c ∷ cs) h = h
-ends_behind p (b ∷ d ∷ front) (c ∷ cs) h = ends_behind p (d ∷ front) (c ∷ cs) h
+ends_behind p (b ∷ d ∷ prefix) (c ∷ cs) h = ends_behind p (d ∷ prefix) (c ∷ cs) h
 
 -- ---- the parts between bytes that pass
 
@@ -165,6 +165,6 @@ pub one_part : (p : ℕ → Bool) (text : List ℕ) → NonePass p text → slic
 one_part p [] none = refl
 one_part p (b ∷ bs) none = let f = fails p b bs none in rw (f.0, one_part p bs f.1) refl
 
-pub more_parts : (p : ℕ → Bool) (front : List ℕ) (b : ℕ) (rest : List ℕ) → NonePass p front → p b ≡ true → slice_split p (front ++ b ∷ rest) ≡ front ∷ slice_split p rest
+pub more_parts : (p : ℕ → Bool) (prefix : List ℕ) (b : ℕ) (rest : List ℕ) → NonePass p prefix → p b ≡ true → slice_split p (prefix ++ b ∷ rest) ≡ prefix ∷ slice_split p rest
 more_parts p [] b rest none t = rw t refl
 more_parts p (c ∷ cs) b rest none t = let f = fails p c cs none in rw (f.0, more_parts p cs b rest f.1 t) refl

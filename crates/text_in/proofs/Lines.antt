@@ -45,15 +45,15 @@ line_last (b ∷ c ∷ bs) h lt =
 
 -- ---- the return before a line feed
 
-return_dropped : (front : List ℕ) (b : ℕ) → is_return b ≡ true → without_return (front ++ b ∷ []) ≡ front
+return_dropped : (prefix : List ℕ) (b : ℕ) → is_return b ≡ true → without_return (prefix ++ b ∷ []) ≡ prefix
 return_dropped [] b h = rw h refl
 return_dropped (x ∷ []) b h = rw h refl
-return_dropped (x ∷ y ∷ front) b h = ap (λ (bs : List ℕ). x ∷ bs) (return_dropped (y ∷ front) b h)
+return_dropped (x ∷ y ∷ prefix) b h = ap (λ (bs : List ℕ). x ∷ bs) (return_dropped (y ∷ prefix) b h)
 
-return_kept : (front : List ℕ) (b : ℕ) → is_return b ≡ false → without_return (front ++ b ∷ []) ≡ front ++ b ∷ []
+return_kept : (prefix : List ℕ) (b : ℕ) → is_return b ≡ false → without_return (prefix ++ b ∷ []) ≡ prefix ++ b ∷ []
 return_kept [] b h = rw h refl
 return_kept (x ∷ []) b h = rw h refl
-return_kept (x ∷ y ∷ front) b h = ap (λ (bs : List ℕ). x ∷ bs) (return_kept (y ∷ front) b h)
+return_kept (x ∷ y ∷ prefix) b h = ap (λ (bs : List ℕ). x ∷ bs) (return_kept (y ∷ prefix) b h)
 
 -- the last byte behind the others
 with_last : (line : List ℕ) → 0 < length line → take (length line - 1) line ++ get_or line (length line - 1) 0 ∷ [] ≡ line
@@ -70,22 +70,22 @@ return_kept_at line lt h = sym (with_last line lt) ∙ sym (return_kept (take (l
 -- ---- the first line of a text
 
 -- the text is cut at its first line feed
-ended_by : (text front behind : List ℕ) → NonePass is_line_feed front → begins is_line_feed behind ≡ true → text ≡ front ++ behind → 0 < length behind → lines_of text ≡ without_return front ∷ lines_of (drop 1 behind)
-ended_by text front [] none feed t some = absurd (omega arith)
-ended_by text front (c ∷ rest) none feed t some =
+ended_by : (text prefix behind : List ℕ) → NonePass is_line_feed prefix → begins is_line_feed behind ≡ true → text ≡ prefix ++ behind → 0 < length behind → lines_of text ≡ without_return prefix ∷ lines_of (drop 1 behind)
+ended_by text prefix [] none feed t some = absurd (omega arith)
+ended_by text prefix (c ∷ rest) none feed t some =
     let is : c ≡ 10 = eqb-true c 10 feed in
-    ap lines_of (t ∙ ap (λ (x : ℕ). front ++ x ∷ rest) is) ∙ line_ended front rest none
+    ap lines_of (t ∙ ap (λ (x : ℕ). prefix ++ x ∷ rest) is) ∙ line_ended prefix rest none
 
-pub first_ended : (text front behind : List ℕ) → front ≡ before_first is_line_feed text → behind ≡ from_first is_line_feed text → 0 < length behind → lines_of text ≡ without_return front ∷ lines_of (drop 1 behind)
-first_ended text front behind f b some =
+pub first_ended : (text prefix behind : List ℕ) → prefix ≡ before_first is_line_feed text → behind ≡ from_first is_line_feed text → 0 < length behind → lines_of text ≡ without_return prefix ∷ lines_of (drop 1 behind)
+first_ended text prefix behind f b some =
     let found = cut_found is_line_feed text in
-    ended_by text front behind (rw f found.0) (rw b found.1) (rw (f, b) (cut_joins is_line_feed text)) some
+    ended_by text prefix behind (rw f found.0) (rw b found.1) (rw (f, b) (cut_joins is_line_feed text)) some
 
-pub first_alone : (text front behind : List ℕ) → front ≡ before_first is_line_feed text → behind ≡ from_first is_line_feed text → length behind ≡ 0 → 0 < length text → lines_of text ≡ front ∷ lines_of []
-first_alone text front behind f b none some =
+pub first_alone : (text prefix behind : List ℕ) → prefix ≡ before_first is_line_feed text → behind ≡ from_first is_line_feed text → length behind ≡ 0 → 0 < length text → lines_of text ≡ prefix ∷ lines_of []
+first_alone text prefix behind f b none some =
     let found = cut_found is_line_feed text in
-    let there : text ≡ front ++ behind = rw (f, b) (cut_joins is_line_feed text) in
-    let whole : text ≡ front = there ∙ ap (λ (x : List ℕ). front ++ x) (nil_from_length behind none) ∙ append-nil front in
+    let there : text ≡ prefix ++ behind = rw (f, b) (cut_joins is_line_feed text) in
+    let whole : text ≡ prefix = there ∙ ap (λ (x : List ℕ). prefix ++ x) (nil_from_length behind none) ∙ append-nil prefix in
     let all : list_all is_in_line text ≡ true = ap (list_all is_in_line) whole ∙ rw f found.0 in
     line_last text all some ∙ ap (λ (x : List ℕ). x ∷ lines_of []) whole
 
@@ -122,11 +122,11 @@ return_there (b ∷ []) h = let is : b ≡ 13 = eqb-true b 13 h in rw h (ap (λ 
 return_there (b ∷ c ∷ bs) h = ap (λ (x : List ℕ). b ∷ x) (return_there (c ∷ bs) h)
 
 -- a line that a line feed ends
-ended_line : (text line front rest : List ℕ) → list_all is_in_line front ≡ true → text ≡ front ++ 10 ∷ rest → without_return front ≡ line → IsFirstLine text line rest
-ended_line text line front rest all e w =
-    elim (cases_Bool (ends_in_return front)) [
+ended_line : (text line prefix rest : List ℕ) → list_all is_in_line prefix ≡ true → text ≡ prefix ++ 10 ∷ rest → without_return prefix ≡ line → IsFirstLine text line rest
+ended_line text line prefix rest all e w =
+    elim (cases_Bool (ends_in_return prefix)) [
       | inl t ↦
-          let there : front ≡ line ++ 13 ∷ [] = return_there front t ∙ ap (λ (x : List ℕ). x ++ 13 ∷ []) w in
+          let there : prefix ≡ line ++ 13 ∷ [] = return_there prefix t ∙ ap (λ (x : List ℕ). x ++ 13 ∷ []) w in
           let parts = all_both is_in_line line (13 ∷ []) (ap (list_all is_in_line) (sym there) ∙ all) in
           record {
             end = 13 ∷ 10 ∷ [];
@@ -135,7 +135,7 @@ ended_line text line front rest all e w =
             text_is = e ∙ ap (λ (x : List ℕ). x ++ 10 ∷ rest) there ∙ append_assoc line (13 ∷ []) (10 ∷ rest);
           }
       | inr f ↦
-          let same : front ≡ line = sym (kept front f) ∙ w in
+          let same : prefix ≡ line = sym (kept prefix f) ∙ w in
           record {
             end = 10 ∷ [];
             in_line = ap (list_all is_in_line) (sym same) ∙ all;
@@ -145,7 +145,7 @@ ended_line text line front rest all e w =
     ]
 
 -- the first line, by where the text is cut at its first line feed
-by_cut : (text line front behind : List ℕ) (lines : List (List ℕ)) → ((rest : List ℕ) → lines_of rest ≡ lines → AreTextLines rest lines) → NonePass is_line_feed front → begins is_line_feed behind ≡ true → text ≡ front ++ behind → lines_of text ≡ line ∷ lines → AreTextLines text (line ∷ lines)
+by_cut : (text line prefix behind : List ℕ) (lines : List (List ℕ)) → ((rest : List ℕ) → lines_of rest ≡ lines → AreTextLines rest lines) → NonePass is_line_feed prefix → begins is_line_feed behind ≡ true → text ≡ prefix ++ behind → lines_of text ≡ line ∷ lines → AreTextLines text (line ∷ lines)
 by_cut text line [] [] lines go none feed t e = let no : [] ≡ line ∷ lines = sym no_lines ∙ ap lines_of (sym t) ∙ e in absurd cc
 by_cut text line (b ∷ bs) [] lines go none feed t e =
     let whole : text ≡ b ∷ bs = t ∙ append-nil (b ∷ bs) in
@@ -153,21 +153,21 @@ by_cut text line (b ∷ bs) [] lines go none feed t e =
     let is : b ∷ bs ≡ line = cc in
     let end : [] ≡ lines = cc in
     inr (record { in_line = ap (list_all is_in_line) (sym is) ∙ none; some = omega (arith, ap length is); text_is = whole ∙ is; last = sym end })
-by_cut text line front (c ∷ rest) lines go none feed t e =
-    let there : text ≡ front ++ 10 ∷ rest = t ∙ ap (λ (x : ℕ). front ++ x ∷ rest) (eqb-true c 10 feed) in
-    let both : without_return front ∷ lines_of rest ≡ line ∷ lines = sym (line_ended front rest none) ∙ ap lines_of (sym there) ∙ e in
-    let w : without_return front ≡ line = cc in
+by_cut text line prefix (c ∷ rest) lines go none feed t e =
+    let there : text ≡ prefix ++ 10 ∷ rest = t ∙ ap (λ (x : ℕ). prefix ++ x ∷ rest) (eqb-true c 10 feed) in
+    let both : without_return prefix ∷ lines_of rest ≡ line ∷ lines = sym (line_ended prefix rest none) ∙ ap lines_of (sym there) ∙ e in
+    let w : without_return prefix ≡ line = cc in
     let r : lines_of rest ≡ lines = cc in
-    inl (rest, ended_line text line front rest none there w, go rest r)
+    inl (rest, ended_line text line prefix rest none there w, go rest r)
 
-no_text : (text front behind : List ℕ) → NonePass is_line_feed front → begins is_line_feed behind ≡ true → text ≡ front ++ behind → lines_of text ≡ [] → text ≡ []
+no_text : (text prefix behind : List ℕ) → NonePass is_line_feed prefix → begins is_line_feed behind ≡ true → text ≡ prefix ++ behind → lines_of text ≡ [] → text ≡ []
 no_text text [] [] none feed t e = t
 no_text text (b ∷ bs) [] none feed t e =
     let some : (b ∷ bs) ∷ lines_of [] ≡ [] = sym (line_last (b ∷ bs) none (omega arith)) ∙ ap lines_of (sym (t ∙ append-nil (b ∷ bs))) ∙ e in
     absurd cc
-no_text text front (c ∷ rest) none feed t e =
-    let there : text ≡ front ++ 10 ∷ rest = t ∙ ap (λ (x : ℕ). front ++ x ∷ rest) (eqb-true c 10 feed) in
-    let some : without_return front ∷ lines_of rest ≡ [] = sym (line_ended front rest none) ∙ ap lines_of (sym there) ∙ e in
+no_text text prefix (c ∷ rest) none feed t e =
+    let there : text ≡ prefix ++ 10 ∷ rest = t ∙ ap (λ (x : ℕ). prefix ++ x ∷ rest) (eqb-true c 10 feed) in
+    let some : without_return prefix ∷ lines_of rest ≡ [] = sym (line_ended prefix rest none) ∙ ap lines_of (sym there) ∙ e in
     absurd cc
 
 -- a text has the lines that are read
@@ -185,8 +185,8 @@ begins_sign : (comment : List ℕ) → IsComment comment → begins is_number_si
 begins_sign [] h = refl
 begins_sign (b ∷ bs) h = rw h refl
 
-pub front_is : (front comment : List ℕ) → list_all is_no_sign front ≡ true → IsComment comment → before_comment (front ++ comment) ≡ front
-front_is front comment all h = (cut_is is_number_sign front comment all (begins_sign comment h)).0
+pub front_is : (prefix comment : List ℕ) → list_all is_no_sign prefix ≡ true → IsComment comment → before_comment (prefix ++ comment) ≡ prefix
+front_is prefix comment all h = (cut_is is_number_sign prefix comment all (begins_sign comment h)).0
 
 -- a line is what stands before its comment, and the comment
 pub record HasComment (text : List ℕ) : Type 0 where

@@ -1,5 +1,6 @@
 use Rattle.std.proofs.Common.{codes}
-use Rattle.report.specs.Objects.{object_text, spaced}
+use Rattle.report.specs.Objects.{object_text}
+use Rattle.text_out.specs.Texts.{spaced}
 use Rattle.report.specs.Calls.{concurrent_text}
 use Rattle.report.proofs.Joined.{joined_four}
 use Rattle.report.proofs.calls.add_concurrent.Goals as goal

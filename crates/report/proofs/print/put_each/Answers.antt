@@ -1,6 +1,7 @@
 use Rattle.std.proofs.Common.{◌+◌, drop, arith}
 use Rattle.report.specs.Objects.{numbered}
-use Rattle.report.proofs.Pieces.{begun, goes_on, cut_off, ended, numbered_next, numbered_all}
+use Rattle.text_out.proofs.Pieces.{begun, goes_on, cut_off, ended}
+use Rattle.report.proofs.Pieces.{numbered_next, numbered_all}
 use Rattle.report.proofs.print.put_each.Goals as goal
 
 pub loop-number-init : goal.loop-number-init

@@ -1,5 +1,5 @@
 use Rattle.report.specs.Report.{head_text, calls_text}
-use Rattle.report.proofs.Pieces.{writes_then}
+use Rattle.text_out.proofs.Pieces.{writes_then}
 use Rattle.report.proofs.whole.put_opening.Goals as goal
 
 pub returns-clause-lines : goal.returns-clause-lines

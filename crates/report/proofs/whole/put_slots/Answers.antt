@@ -1,6 +1,6 @@
 use Rattle.report.specs.Objects.{numbered}
 use Rattle.report.specs.Tables.{enclave_text, thread_text}
-use Rattle.report.proofs.Pieces.{writes_then}
+use Rattle.text_out.proofs.Pieces.{writes_then}
 use Rattle.report.proofs.whole.put_slots.Goals as goal
 
 pub returns-clause-lines : goal.returns-clause-lines

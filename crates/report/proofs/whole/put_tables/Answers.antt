@@ -1,7 +1,7 @@
 use Rattle.report.specs.Objects.{numbered}
 use Rattle.report.specs.Tables.{region_line, core_lines}
 use Rattle.report.specs.Report.{slots_text}
-use Rattle.report.proofs.Pieces.{stopped_second, writes_third}
+use Rattle.text_out.proofs.Pieces.{stopped_second, writes_third}
 use Rattle.report.proofs.whole.put_tables.Goals as goal
 
 pub returns-in_err-put_slots-clause-lines : goal.returns-in_err-put_slots-clause-lines

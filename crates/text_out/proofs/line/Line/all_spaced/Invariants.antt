@@ -1,6 +1,6 @@
 use Rattle.std.proofs.Common.{◌≡◌, ◌≤◌, ◌+◌, ◌*◌, ◌++◌, length, take}
-use Rattle.report.specs.Objects.{all_spaced}
-use Rattle.report.proofs.line.Line.all_spaced.Given as goal
+use Rattle.text_out.specs.Texts.{all_spaced}
+use Rattle.text_out.proofs.line.Line.all_spaced.Given as goal
 
 abbrev pub invariant-loop-number : goal.invariant-loop-number
 invariant-loop-number l = record {

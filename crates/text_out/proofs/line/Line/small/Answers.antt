@@ -1,7 +1,7 @@
 use Rattle.std.proofs.Common.{◌≤◌, length, ap, arith}
 use Rattle.std.specs.Fmt.{decimal}
 use Rattle.std.proofs.lemmas.Fmt.{length-decimal-le}
-use Rattle.report.proofs.objects.add_small.Goals as goal
+use Rattle.text_out.proofs.line.Line.small.Goals as goal
 
 pub text-requires : goal.text-requires
 text-requires c =

@@ -1,8 +1,8 @@
 //! A line of text that is being made.
 
-ghost use Rattle.std.specs.Prelude.{◌≡◌, ◌≤◌, ◌+◌, ◌*◌, [], ◌∷◌, ◌++◌, ℕ, List, length};
+ghost use Rattle.std.specs.Prelude.{◌≡◌, ◌≤◌, ◌<◌, ◌+◌, ◌*◌, [], ◌++◌, ℕ, List, length};
 ghost use Rattle.std.specs.Fmt.{decimal};
-ghost use Rattle.report.specs.Objects.{spaced, all_spaced, digest_text, measure_text};
+ghost use Rattle.text_out.specs.Texts.{spaced, all_spaced, hex_text};
 
 use arrayvec::ArrayVec;
 use itoa::Buffer;
@@ -71,6 +71,17 @@ impl Line {
         self.bytes(buffer.format(n).as_bytes());
     }
 
+    /// Adds a number below a hundred, which has at most two digits.
+    pub fn small(&mut self, n: u64)
+        requires small { n < 100 }
+        requires room { length self.old + 2 ≤ LINE }
+        ensures text { self.new ≡ self.old ++ decimal n }
+        ensures len { length self.new ≤ length self.old + 2 }
+    {
+        let mut buffer = Buffer::new();
+        self.text(buffer.format(n));
+    }
+
     /// Adds a number after a space.
     pub fn spaced(&mut self, n: u64)
         requires { length self.old + 21 ≤ LINE }
@@ -96,7 +107,7 @@ impl Line {
     pub fn hex(&mut self, bytes: &[u8])
         requires few { length bytes.now ≤ 32 }
         requires room { length self.old + 2 * length bytes.now ≤ LINE }
-        ensures text { self.new ≡ self.old ++ digest_text bytes.now }
+        ensures text { self.new ≡ self.old ++ hex_text bytes.now }
         ensures len { length self.new ≡ length self.old + 2 * length bytes.now }
     {
         let mut digits = [0u8; 64];
@@ -104,17 +115,5 @@ impl Line {
         // There are two places for each byte, so this does not fail.
         let _ = hex::encode_to_slice(bytes, used);
         self.bytes(used);
-    }
-
-    /// Adds the 32 bytes of a measurement's words, the lowest byte of each first, as 64 hexadecimal
-    /// digits.
-    pub fn measure(&mut self, words: &[u64; 4])
-        requires { length self.old + 64 ≤ LINE }
-        ensures text { self.new ≡ self.old ++ measure_text words.now }
-        ensures len { length self.new ≡ length self.old + 64 }
-    {
-        for word in words {
-            self.hex(&word.to_le_bytes());
-        }
     }
 }
