@@ -42,6 +42,7 @@ words_text words = flat_map (to_le_bytes w64) words
 abbrev pub segment_head : Segment → List ℕ
 segment_head s = to_le_bytes w64 s.address ++ to_le_bytes w32 (8 * length s.words) ++ 0 ∷ 0 ∷ 0 ∷ 0 ∷ []
 
+-- a segment: its head, and its words
 abbrev pub segment_text : Segment → List ℕ
 segment_text s = segment_head s ++ words_text s.words
 

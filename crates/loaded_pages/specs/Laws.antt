@@ -73,7 +73,8 @@ PathsAgree =
 -- once a call that loads is not refused early, it is decided by the words as by the items
 abbrev pub WordsDecide : Type 0
 WordsDecide =
-    (s : State) (content : Content) (core : ℕ) (call : Call) → AreTables s → ContentHolds s content → is_load call ≡ true
+    (s : State) (content : Content) (core : ℕ) (call : Call) → AreTables s → ContentHolds s content
+    → is_load call ≡ true
     → early s.shape (mode_of s core) call ≡ None
     → words_reply s call (call_words s content call) ≡ held_reply s core call
 
@@ -89,7 +90,8 @@ WordsDecideInHistory =
 -- where it is Ok, its pte goes to the last place on its path
 abbrev pub PteGoesLast : Type 0
 PteGoesLast =
-    (s : State) (content : Content) (core : ℕ) (call : Call) → AreTables s → ContentHolds s content → is_load call ≡ true
+    (s : State) (content : Content) (core : ℕ) (call : Call) → AreTables s → ContentHolds s content
+    → is_load call ≡ true
     → is_done (reply_of s core call) ≡ true → loaded_place s call ≡ last_place (call_places s content call)
 
 -- ---- word by word
@@ -124,8 +126,8 @@ PageHoldsWords =
     is_done (reply_of s core call) ≡ true
     → page_words_of (content_after s (reply_of s core call) call words content) page ≡ words
 
--- In a legal history whose entries have read their pages, `loaded_page` after an Ok load_page into slot e is exactly the
--- words that its entry read, 512 of its core's answers.
+-- In a legal history whose entries have read their pages, `loaded_page` after an Ok load_page into slot e is exactly
+-- the words that its entry read, 512 of its core's answers.
 abbrev pub LoadedPageIsRead : Type 0
 LoadedPageIsRead =
     (shape : Shape) (logs : List (List Event)) (answers : List (List ℕ)) (k e va page src perms : ℕ) (entry : Entry)

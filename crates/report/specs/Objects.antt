@@ -31,16 +31,19 @@ lettered letter i = letter ++ decimal i
 abbrev pub members_text : List ℕ → ℕ → ℕ → List ℕ
 members_text letter set count = flat_map (lettered letter) (members set count)
 
--- the letters of the kinds, each after a space
+-- the letter of an enclave slot, after a space
 unfoldable pub enclave_letter : List ℕ
 enclave_letter = codes " e"
 
+-- that of a thread slot
 unfoldable pub thread_letter : List ℕ
 thread_letter = codes " t"
 
+-- that of a region
 unfoldable pub region_letter : List ℕ
 region_letter = codes " r"
 
+-- that of a core's flush clock
 unfoldable pub cell_letter : List ℕ
 cell_letter = codes " c"
 

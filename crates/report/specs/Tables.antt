@@ -19,10 +19,14 @@ use Rattle.report.specs.Objects.{owner_text, measure_text, numbered}
 -- the line of a region: free, owned, blocked or offered
 unfoldable pub region_line : ℕ → Region → List ℕ
 region_line r regions.Free = codes "region " ++ decimal r ++ codes " free\n"
-region_line r (regions.Owned owner since) = codes "region " ++ decimal r ++ codes " owned " ++ owner_text owner ++ codes " since " ++ decimal since ++ codes "\n"
+region_line r (regions.Owned owner since) =
+    codes "region " ++ decimal r ++ codes " owned " ++ owner_text owner ++ codes " since " ++ decimal since
+    ++ codes "\n"
 region_line r (regions.Blocked owner since at) =
-    codes "region " ++ decimal r ++ codes " blocked " ++ owner_text owner ++ codes " since " ++ decimal since ++ codes " at " ++ decimal at ++ codes "\n"
-region_line r (regions.Offered to at) = codes "region " ++ decimal r ++ codes " offered e" ++ decimal to ++ codes " at " ++ decimal at ++ codes "\n"
+    codes "region " ++ decimal r ++ codes " blocked " ++ owner_text owner ++ codes " since " ++ decimal since
+    ++ codes " at " ++ decimal at ++ codes "\n"
+region_line r (regions.Offered to at) =
+    codes "region " ++ decimal r ++ codes " offered e" ++ decimal to ++ codes " at " ++ decimal at ++ codes "\n"
 
 -- which mailbox of which enclave slot
 unfoldable pub mailbox_head : ℕ → ℕ → List ℕ
@@ -34,7 +38,8 @@ unfoldable pub mailbox_line : ℕ → ℕ → Mailbox → List ℕ
 mailbox_line e m mailboxes.Closed = mailbox_head e m ++ codes " closed\n"
 mailbox_line e m (mailboxes.Expecting from) = mailbox_head e m ++ codes " expecting " ++ decimal from ++ codes "\n"
 mailbox_line e m (mailboxes.Full from words measure) =
-    mailbox_head e m ++ codes " full " ++ decimal from ++ all_spaced words ++ codes " " ++ measure_text measure ++ codes "\n"
+    mailbox_head e m ++ codes " full " ++ decimal from ++ all_spaced words ++ codes " " ++ measure_text measure
+    ++ codes "\n"
 
 -- a stage; an empty slot is not printed
 unfoldable pub stage_text : Stage → List ℕ
@@ -44,11 +49,15 @@ stage_text stages.Initialized = codes " initialized"
 
 -- an enclave slot with its stage and the enclave's range
 unfoldable pub enclave_head : ℕ → Enclave → List ℕ
-enclave_head e enclave = codes "enclave " ++ decimal e ++ stage_text enclave.stage ++ codes " base " ++ decimal enclave.base ++ codes " size " ++ decimal enclave.size
+enclave_head e enclave =
+    codes "enclave " ++ decimal e ++ stage_text enclave.stage ++ codes " base " ++ decimal enclave.base
+    ++ codes " size " ++ decimal enclave.size
 
 -- the line of an enclave: its stage and range, how many threads it has, and its measurement
 unfoldable pub enclave_line : ℕ → Enclave → List ℕ
-enclave_line e enclave = enclave_head e enclave ++ codes " threads " ++ decimal enclave.threads ++ codes " measure " ++ measure_text enclave.measure ++ codes "\n"
+enclave_line e enclave =
+    enclave_head e enclave ++ codes " threads " ++ decimal enclave.threads ++ codes " measure "
+    ++ measure_text enclave.measure ++ codes "\n"
 
 -- the line of an enclave, and those of its mailboxes
 abbrev pub held_slot_text : ℕ → Enclave → List ℕ
@@ -67,8 +76,12 @@ enclave_text e enclave = unless_empty enclave.stage (held_slot_text e enclave)
 -- the line of a thread slot in this state, with the ticket of its saved exit; none for an empty slot
 unfoldable pub state_line : ℕ → ThreadState → ℕ → List ℕ
 state_line t states.Empty saved_at = []
-state_line t (states.Ready enclave) saved_at = codes "thread " ++ decimal t ++ codes " ready e" ++ decimal enclave ++ codes " saved " ++ decimal saved_at ++ codes "\n"
-state_line t (states.Running enclave) saved_at = codes "thread " ++ decimal t ++ codes " running e" ++ decimal enclave ++ codes " saved " ++ decimal saved_at ++ codes "\n"
+state_line t (states.Ready enclave) saved_at =
+    codes "thread " ++ decimal t ++ codes " ready e" ++ decimal enclave ++ codes " saved " ++ decimal saved_at
+    ++ codes "\n"
+state_line t (states.Running enclave) saved_at =
+    codes "thread " ++ decimal t ++ codes " running e" ++ decimal enclave ++ codes " saved " ++ decimal saved_at
+    ++ codes "\n"
 
 -- the line of a thread slot: its state, its enclave and its saved exit
 abbrev pub thread_text : ℕ → Thread → List ℕ
@@ -78,7 +91,8 @@ thread_text t thread = state_line t thread.state thread.saved_at
 unfoldable pub core_line : ℕ → Mode → ℕ → List ℕ
 core_line c modes.Os flushed = codes "core " ++ decimal c ++ codes " os flushed " ++ decimal flushed ++ codes "\n"
 core_line c (modes.Inside enclave thread) flushed =
-    codes "core " ++ decimal c ++ codes " in e" ++ decimal enclave ++ codes " t" ++ decimal thread ++ codes " flushed " ++ decimal flushed ++ codes "\n"
+    codes "core " ++ decimal c ++ codes " in e" ++ decimal enclave ++ codes " t" ++ decimal thread ++ codes " flushed "
+    ++ decimal flushed ++ codes "\n"
 
 -- the lines of cores, counted from c, by their modes and flush tickets
 abbrev pub core_lines : ℕ → List Mode → List ℕ → List ℕ

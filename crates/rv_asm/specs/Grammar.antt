@@ -32,10 +32,12 @@ pub record IsLabel (word : List ℕ) : Type 0 where
 abbrev pub StandsAt : List Label → List ℕ → ℕ → Type 0
 StandsAt labels word n = (before after : List Label) × (labels ≡ before ++ (word, n) ∷ after)
 
--- the operand is a target at this distance in bytes from the statement behind so many words: a label, or the distance as a number
+-- the operand is a target at this distance in bytes from the statement behind so many words: a label, or the distance
+-- as a number
 abbrev pub IsTarget : List Label → ℕ → List ℕ → ℤ → Type 0
 IsTarget labels words operand n =
-    (IsLabel operand × ((there : ℕ) × StandsAt labels operand there × (n ≡ pos (4 * there) -ℤ pos (4 * words)))) ⊎ ((IsLabel operand → ⊥) × IsNumber operand n)
+    (IsLabel operand × ((there : ℕ) × StandsAt labels operand there × (n ≡ pos (4 * there) -ℤ pos (4 * words))))
+    ⊎ ((IsLabel operand → ⊥) × IsNumber operand n)
 
 -- the operand is a register between parentheses
 abbrev pub IsBased : List ℕ → ℕ → Type 0
@@ -51,13 +53,19 @@ IsUpper operand imm = (n : ℕ) × IsNumber operand (pos n) × (n < 2 ^ 20) × (
 
 -- the operands that follow the name of an instruction, behind so many words of a text with these labels
 abbrev pub AreOperands : List Label → ℕ → List (List ℕ) → Inst → Type 0
-AreOperands labels words operands (insts.Upper op rd imm) = (a b : List ℕ) × (operands ≡ a ∷ b ∷ []) × IsRegisterName a rd × IsUpper b imm
-AreOperands labels words operands (insts.Jal rd imm) = (a b : List ℕ) × (operands ≡ a ∷ b ∷ []) × IsRegisterName a rd × IsTarget labels words b imm
-AreOperands labels words operands (insts.Jalr rd rs1 imm) = (a b : List ℕ) × (operands ≡ a ∷ b ∷ []) × IsRegisterName a rd × IsDisplaced b imm rs1
+AreOperands labels words operands (insts.Upper op rd imm) =
+    (a b : List ℕ) × (operands ≡ a ∷ b ∷ []) × IsRegisterName a rd × IsUpper b imm
+AreOperands labels words operands (insts.Jal rd imm) =
+    (a b : List ℕ) × (operands ≡ a ∷ b ∷ []) × IsRegisterName a rd × IsTarget labels words b imm
+AreOperands labels words operands (insts.Jalr rd rs1 imm) =
+    (a b : List ℕ) × (operands ≡ a ∷ b ∷ []) × IsRegisterName a rd × IsDisplaced b imm rs1
 AreOperands labels words operands (insts.Branch op rs1 rs2 imm) =
-    (a b c : List ℕ) × (operands ≡ a ∷ b ∷ c ∷ []) × IsRegisterName a rs1 × IsRegisterName b rs2 × IsTarget labels words c imm
-AreOperands labels words operands (insts.Load op rd rs1 imm) = (a b : List ℕ) × (operands ≡ a ∷ b ∷ []) × IsRegisterName a rd × IsDisplaced b imm rs1
-AreOperands labels words operands (insts.Store op rs1 rs2 imm) = (a b : List ℕ) × (operands ≡ a ∷ b ∷ []) × IsRegisterName a rs2 × IsDisplaced b imm rs1
+    (a b c : List ℕ) × (operands ≡ a ∷ b ∷ c ∷ []) × IsRegisterName a rs1 × IsRegisterName b rs2
+    × IsTarget labels words c imm
+AreOperands labels words operands (insts.Load op rd rs1 imm) =
+    (a b : List ℕ) × (operands ≡ a ∷ b ∷ []) × IsRegisterName a rd × IsDisplaced b imm rs1
+AreOperands labels words operands (insts.Store op rs1 rs2 imm) =
+    (a b : List ℕ) × (operands ≡ a ∷ b ∷ []) × IsRegisterName a rs2 × IsDisplaced b imm rs1
 AreOperands labels words operands (insts.Imm op rd rs1 imm) =
     (a b c : List ℕ) × (operands ≡ a ∷ b ∷ c ∷ []) × IsRegisterName a rd × IsRegisterName b rs1 × IsNumber c imm
 AreOperands labels words operands (insts.Reg op rd rs1 rs2) =
@@ -70,12 +78,14 @@ AreOperands labels words operands (insts.Fence rd rs1 imm) =
     (a b c : List ℕ) × (operands ≡ a ∷ b ∷ c ∷ []) × IsRegisterName a rd × IsRegisterName b rs1 × IsNumber c imm
 AreOperands labels words operands insts.Ecall = operands ≡ []
 AreOperands labels words operands insts.Ebreak = operands ≡ []
-AreOperands labels words operands (insts.Sfence rs1 rs2) = (a b : List ℕ) × (operands ≡ a ∷ b ∷ []) × IsRegisterName a rs1 × IsRegisterName b rs2
+AreOperands labels words operands (insts.Sfence rs1 rs2) =
+    (a b : List ℕ) × (operands ≡ a ∷ b ∷ []) × IsRegisterName a rs1 × IsRegisterName b rs2
 
 -- ---- statements
 
 -- the name and the operands are an instruction whose operands are in range, and the words are its one word
-pub record IsMade (labels : List Label) (words : ℕ) (name : List ℕ) (operands : List (List ℕ)) (made : List ℕ) : Type 0 where
+pub record IsMade (labels : List Label) (words : ℕ) (name : List ℕ) (operands : List (List ℕ))
+    (made : List ℕ) : Type 0 where
   pub inst : Inst
   pub word : ℕ
   pub name_is : name ≡ name_text (name_of inst)
@@ -86,22 +96,27 @@ pub record IsMade (labels : List Label) (words : ℕ) (name : List ℕ) (operand
 
 -- `.word`, a number of 32 bits
 abbrev pub IsWord : List ℕ → List (List ℕ) → List ℕ → Type 0
-IsWord name operands made = (operand : List ℕ) × (n : ℕ) × (name ≡ codes ".word") × (operands ≡ operand ∷ []) × IsNumber operand (pos n) × (n < 2 ^ 32) × (made ≡ n ∷ [])
+IsWord name operands made =
+    (operand : List ℕ) × (n : ℕ) × (name ≡ codes ".word") × (operands ≡ operand ∷ []) × IsNumber operand (pos n)
+    × (n < 2 ^ 32) × (made ≡ n ∷ [])
 
 -- `.dword`, a number of 64 bits, whose low word comes first
 abbrev pub IsDoubleWord : List ℕ → List (List ℕ) → List ℕ → Type 0
 IsDoubleWord name operands made =
-    (operand : List ℕ) × (n : ℕ) × (name ≡ codes ".dword") × (operands ≡ operand ∷ []) × IsNumber operand (pos n) × (n < 2 ^ 64) × (made ≡ n % 2 ^ 32 ∷ n / 2 ^ 32 ∷ [])
+    (operand : List ℕ) × (n : ℕ) × (name ≡ codes ".dword") × (operands ≡ operand ∷ []) × IsNumber operand (pos n)
+    × (n < 2 ^ 64) × (made ≡ n % 2 ^ 32 ∷ n / 2 ^ 32 ∷ [])
 
 -- `.at`, a place in bytes, a multiple of four that is not behind: zero words up to it
 abbrev pub IsFill : ℕ → List ℕ → List (List ℕ) → List ℕ → Type 0
 IsFill words name operands made =
-    (operand : List ℕ) × (count : ℕ) × (name ≡ codes ".at") × (operands ≡ operand ∷ []) × IsNumber operand (pos (4 * (words + count))) × (made ≡ replicate count 0)
+    (operand : List ℕ) × (count : ℕ) × (name ≡ codes ".at") × (operands ≡ operand ∷ [])
+    × IsNumber operand (pos (4 * (words + count))) × (made ≡ replicate count 0)
 
 -- the name and the operands are a statement with these words, behind so many words of a text with these labels
 abbrev pub IsStatement : List Label → ℕ → List ℕ → List (List ℕ) → List ℕ → Type 0
 IsStatement labels words name operands made =
-    IsMade labels words name operands made ⊎ IsWord name operands made ⊎ IsDoubleWord name operands made ⊎ IsFill words name operands made
+    IsMade labels words name operands made ⊎ IsWord name operands made ⊎ IsDoubleWord name operands made
+    ⊎ IsFill words name operands made
 
 -- ---- lines
 
@@ -120,28 +135,34 @@ pub record IsPadded (text operand : List ℕ) : Type 0 where
 abbrev pub ArePadded : List ℕ → List (List ℕ) → Type 0
 ArePadded text [] = ⊥
 ArePadded text (operand ∷ []) = IsPadded text operand
-ArePadded text (operand ∷ next ∷ operands) = (first rest : List ℕ) × (text ≡ first ++ 44 ∷ rest) × IsPadded first operand × ArePadded rest (next ∷ operands)
+ArePadded text (operand ∷ next ∷ operands) =
+    (first rest : List ℕ) × (text ≡ first ++ 44 ∷ rest) × IsPadded first operand × ArePadded rest (next ∷ operands)
 
 -- nothing, or these operands behind blanks, at least one, and all that there are
 abbrev pub AreBehind : List ℕ → List (List ℕ) → Type 0
 AreBehind text operands =
     ((text ≡ []) × (operands ≡ []))
-    ⊎ ((blanks rest : List ℕ) × (0 < length blanks) × Are is_blank blanks × (begins is_solid rest ≡ true) × (text ≡ blanks ++ rest) × ArePadded rest operands)
+    ⊎ ((blanks rest : List ℕ) × (0 < length blanks) × Are is_blank blanks × (begins is_solid rest ≡ true)
+    × (text ≡ blanks ++ rest) × ArePadded rest operands)
 
 -- the text is nothing, or a statement, whose name no blank is in
 abbrev pub IsStatementText : List Label → ℕ → List ℕ → List ℕ → Type 0
 IsStatementText labels words text made =
     ((text ≡ []) × (made ≡ []))
-    ⊎ ((name rest : List ℕ) × (operands : List (List ℕ)) × (text ≡ name ++ rest) × AreBehind rest operands × IsStatement labels words name operands made)
+    ⊎ ((name rest : List ℕ) × (operands : List (List ℕ)) × (text ≡ name ++ rest) × AreBehind rest operands
+    × IsStatement labels words name operands made)
 
 -- the text is an optional label with a colon right behind it, blanks, and a statement or nothing
 abbrev pub IsBody : List Label → ℕ → List ℕ → Option (List ℕ) → List ℕ → Type 0
 IsBody labels words text None made = IsStatementText labels words text made
 IsBody labels words text (Some label) made =
-    (blanks rest : List ℕ) × IsLabel label × Are is_blank blanks × (text ≡ label ++ 58 ∷ (blanks ++ rest)) × IsStatementText labels words rest made
+    (blanks rest : List ℕ) × IsLabel label × Are is_blank blanks × (text ≡ label ++ 58 ∷ (blanks ++ rest))
+    × IsStatementText labels words rest made
 
--- the line is blanks, an optional label and statement, blanks and a comment, all of it ASCII; blanks at the end belong to no operand
-pub record IsLine (labels : List Label) (words : ℕ) (line : List ℕ) (label : Option (List ℕ)) (made : List ℕ) : Type 0 where
+-- the line is blanks, an optional label and statement, blanks and a comment, all of it ASCII; blanks at the end belong
+-- to no operand
+pub record IsLine (labels : List Label) (words : ℕ) (line : List ℕ) (label : Option (List ℕ))
+    (made : List ℕ) : Type 0 where
   pub before : List ℕ
   pub body : List ℕ
   pub after : List ℕ
@@ -167,11 +188,14 @@ abbrev pub AreLines : List Label → ℕ → List (List ℕ) → List Label → 
 AreLines labels words [] own made = (own ≡ []) × (made ≡ [])
 AreLines labels words (line ∷ lines) own made =
     (label : Option (List ℕ)) × (first rest : List ℕ) × (others : List Label)
-    × IsLine labels words line label first × AreLines labels (words + length first) lines others rest × (own ≡ labelled label words ++ others) × (made ≡ first ++ rest)
+    × IsLine labels words line label first × AreLines labels (words + length first) lines others rest
+    × (own ≡ labelled label words ++ others) × (made ≡ first ++ rest)
 
 -- no label stands twice
 abbrev pub AreApart : List Label → Type 0
-AreApart labels = (before between after : List Label) (name : List ℕ) (m n : ℕ) → labels ≡ before ++ (name, m) ∷ between ++ (name, n) ∷ after → ⊥
+AreApart labels =
+    (before between after : List Label) (name : List ℕ) (m n : ℕ) → labels ≡ before ++ (name, m) ∷ between ++ (name, n)
+    ∷ after → ⊥
 
 -- the bytes are a text with these words, of which there may be limit
 pub record IsText (limit : ℕ) (text made : List ℕ) : Type 0 where

@@ -170,36 +170,56 @@ name_of (insts.Sfence rs1 rs2) = names.Sfence
 -- every name, each once
 abbrev pub all_names : List Name
 all_names =
-    names.Upper uppers.Lui ∷ names.Upper uppers.Auipc ∷ names.Jal ∷ names.Jalr ∷ names.Branch branches.Beq ∷ names.Branch branches.Bne ∷
-    names.Branch branches.Blt ∷ names.Branch branches.Bge ∷ names.Branch branches.Bltu ∷ names.Branch branches.Bgeu ∷ names.Load loads.Lb ∷
-    names.Load loads.Lh ∷ names.Load loads.Lw ∷ names.Load loads.Ld ∷ names.Load loads.Lbu ∷ names.Load loads.Lhu ∷ names.Load loads.Lwu ∷
-    names.Store stores.Sb ∷ names.Store stores.Sh ∷ names.Store stores.Sw ∷ names.Store stores.Sd ∷ names.Imm imms.Addi ∷ names.Imm imms.Slti ∷
-    names.Imm imms.Sltiu ∷ names.Imm imms.Xori ∷ names.Imm imms.Ori ∷ names.Imm imms.Andi ∷ names.Imm imms.Slli ∷ names.Imm imms.Srli ∷
-    names.Imm imms.Srai ∷ names.Imm imms.Addiw ∷ names.Imm imms.Slliw ∷ names.Imm imms.Srliw ∷ names.Imm imms.Sraiw ∷ names.Reg regs.Add ∷
-    names.Reg regs.Sub ∷ names.Reg regs.Sll ∷ names.Reg regs.Slt ∷ names.Reg regs.Sltu ∷ names.Reg regs.Xor ∷ names.Reg regs.Srl ∷
-    names.Reg regs.Sra ∷ names.Reg regs.Or ∷ names.Reg regs.And ∷ names.Reg regs.Addw ∷ names.Reg regs.Subw ∷ names.Reg regs.Sllw ∷
-    names.Reg regs.Srlw ∷ names.Reg regs.Sraw ∷ names.Mul muls.Mul ∷ names.Mul muls.Mulh ∷ names.Mul muls.Mulhsu ∷ names.Mul muls.Mulhu ∷
-    names.Mul muls.Div ∷ names.Mul muls.Divu ∷ names.Mul muls.Rem ∷ names.Mul muls.Remu ∷ names.Mul muls.Mulw ∷ names.Mul muls.Divw ∷
-    names.Mul muls.Divuw ∷ names.Mul muls.Remw ∷ names.Mul muls.Remuw ∷ names.Amo amos.Swap widths.Four false false ∷ names.Amo amos.Swap widths.Four true false ∷
-    names.Amo amos.Swap widths.Four false true ∷ names.Amo amos.Swap widths.Four true true ∷ names.Amo amos.Swap widths.Eight false false ∷ names.Amo amos.Swap widths.Eight true false ∷
-    names.Amo amos.Swap widths.Eight false true ∷ names.Amo amos.Swap widths.Eight true true ∷ names.Amo amos.Add widths.Four false false ∷ names.Amo amos.Add widths.Four true false ∷
-    names.Amo amos.Add widths.Four false true ∷ names.Amo amos.Add widths.Four true true ∷ names.Amo amos.Add widths.Eight false false ∷ names.Amo amos.Add widths.Eight true false ∷
-    names.Amo amos.Add widths.Eight false true ∷ names.Amo amos.Add widths.Eight true true ∷ names.Amo amos.Xor widths.Four false false ∷ names.Amo amos.Xor widths.Four true false ∷
-    names.Amo amos.Xor widths.Four false true ∷ names.Amo amos.Xor widths.Four true true ∷ names.Amo amos.Xor widths.Eight false false ∷ names.Amo amos.Xor widths.Eight true false ∷
-    names.Amo amos.Xor widths.Eight false true ∷ names.Amo amos.Xor widths.Eight true true ∷ names.Amo amos.And widths.Four false false ∷ names.Amo amos.And widths.Four true false ∷
-    names.Amo amos.And widths.Four false true ∷ names.Amo amos.And widths.Four true true ∷ names.Amo amos.And widths.Eight false false ∷ names.Amo amos.And widths.Eight true false ∷
-    names.Amo amos.And widths.Eight false true ∷ names.Amo amos.And widths.Eight true true ∷ names.Amo amos.Or widths.Four false false ∷ names.Amo amos.Or widths.Four true false ∷
-    names.Amo amos.Or widths.Four false true ∷ names.Amo amos.Or widths.Four true true ∷ names.Amo amos.Or widths.Eight false false ∷ names.Amo amos.Or widths.Eight true false ∷
-    names.Amo amos.Or widths.Eight false true ∷ names.Amo amos.Or widths.Eight true true ∷ names.Amo amos.Min widths.Four false false ∷ names.Amo amos.Min widths.Four true false ∷
-    names.Amo amos.Min widths.Four false true ∷ names.Amo amos.Min widths.Four true true ∷ names.Amo amos.Min widths.Eight false false ∷ names.Amo amos.Min widths.Eight true false ∷
-    names.Amo amos.Min widths.Eight false true ∷ names.Amo amos.Min widths.Eight true true ∷ names.Amo amos.Max widths.Four false false ∷ names.Amo amos.Max widths.Four true false ∷
-    names.Amo amos.Max widths.Four false true ∷ names.Amo amos.Max widths.Four true true ∷ names.Amo amos.Max widths.Eight false false ∷ names.Amo amos.Max widths.Eight true false ∷
-    names.Amo amos.Max widths.Eight false true ∷ names.Amo amos.Max widths.Eight true true ∷ names.Amo amos.Minu widths.Four false false ∷ names.Amo amos.Minu widths.Four true false ∷
-    names.Amo amos.Minu widths.Four false true ∷ names.Amo amos.Minu widths.Four true true ∷ names.Amo amos.Minu widths.Eight false false ∷ names.Amo amos.Minu widths.Eight true false ∷
-    names.Amo amos.Minu widths.Eight false true ∷ names.Amo amos.Minu widths.Eight true true ∷ names.Amo amos.Maxu widths.Four false false ∷ names.Amo amos.Maxu widths.Four true false ∷
-    names.Amo amos.Maxu widths.Four false true ∷ names.Amo amos.Maxu widths.Four true true ∷ names.Amo amos.Maxu widths.Eight false false ∷ names.Amo amos.Maxu widths.Eight true false ∷
-    names.Amo amos.Maxu widths.Eight false true ∷ names.Amo amos.Maxu widths.Eight true true ∷ names.Fence ∷ names.Ecall ∷ names.Ebreak ∷ names.Sfence ∷ names.Word ∷
-    names.DoubleWord ∷ names.At ∷ []
+    names.Upper uppers.Lui ∷ names.Upper uppers.Auipc ∷ names.Jal ∷ names.Jalr ∷ names.Branch branches.Beq
+    ∷ names.Branch branches.Bne ∷ names.Branch branches.Blt ∷ names.Branch branches.Bge ∷ names.Branch branches.Bltu
+    ∷ names.Branch branches.Bgeu ∷ names.Load loads.Lb ∷ names.Load loads.Lh ∷ names.Load loads.Lw
+    ∷ names.Load loads.Ld ∷ names.Load loads.Lbu ∷ names.Load loads.Lhu ∷ names.Load loads.Lwu ∷ names.Store stores.Sb
+    ∷ names.Store stores.Sh ∷ names.Store stores.Sw ∷ names.Store stores.Sd ∷ names.Imm imms.Addi
+    ∷ names.Imm imms.Slti ∷ names.Imm imms.Sltiu ∷ names.Imm imms.Xori ∷ names.Imm imms.Ori ∷ names.Imm imms.Andi
+    ∷ names.Imm imms.Slli ∷ names.Imm imms.Srli ∷ names.Imm imms.Srai ∷ names.Imm imms.Addiw ∷ names.Imm imms.Slliw
+    ∷ names.Imm imms.Srliw ∷ names.Imm imms.Sraiw ∷ names.Reg regs.Add ∷ names.Reg regs.Sub ∷ names.Reg regs.Sll
+    ∷ names.Reg regs.Slt ∷ names.Reg regs.Sltu ∷ names.Reg regs.Xor ∷ names.Reg regs.Srl ∷ names.Reg regs.Sra
+    ∷ names.Reg regs.Or ∷ names.Reg regs.And ∷ names.Reg regs.Addw ∷ names.Reg regs.Subw ∷ names.Reg regs.Sllw
+    ∷ names.Reg regs.Srlw ∷ names.Reg regs.Sraw ∷ names.Mul muls.Mul ∷ names.Mul muls.Mulh ∷ names.Mul muls.Mulhsu
+    ∷ names.Mul muls.Mulhu ∷ names.Mul muls.Div ∷ names.Mul muls.Divu ∷ names.Mul muls.Rem ∷ names.Mul muls.Remu
+    ∷ names.Mul muls.Mulw ∷ names.Mul muls.Divw ∷ names.Mul muls.Divuw ∷ names.Mul muls.Remw ∷ names.Mul muls.Remuw
+    ∷ names.Amo amos.Swap widths.Four false false ∷ names.Amo amos.Swap widths.Four true false
+    ∷ names.Amo amos.Swap widths.Four false true ∷ names.Amo amos.Swap widths.Four true true
+    ∷ names.Amo amos.Swap widths.Eight false false ∷ names.Amo amos.Swap widths.Eight true false
+    ∷ names.Amo amos.Swap widths.Eight false true ∷ names.Amo amos.Swap widths.Eight true true
+    ∷ names.Amo amos.Add widths.Four false false ∷ names.Amo amos.Add widths.Four true false
+    ∷ names.Amo amos.Add widths.Four false true ∷ names.Amo amos.Add widths.Four true true
+    ∷ names.Amo amos.Add widths.Eight false false ∷ names.Amo amos.Add widths.Eight true false
+    ∷ names.Amo amos.Add widths.Eight false true ∷ names.Amo amos.Add widths.Eight true true
+    ∷ names.Amo amos.Xor widths.Four false false ∷ names.Amo amos.Xor widths.Four true false
+    ∷ names.Amo amos.Xor widths.Four false true ∷ names.Amo amos.Xor widths.Four true true
+    ∷ names.Amo amos.Xor widths.Eight false false ∷ names.Amo amos.Xor widths.Eight true false
+    ∷ names.Amo amos.Xor widths.Eight false true ∷ names.Amo amos.Xor widths.Eight true true
+    ∷ names.Amo amos.And widths.Four false false ∷ names.Amo amos.And widths.Four true false
+    ∷ names.Amo amos.And widths.Four false true ∷ names.Amo amos.And widths.Four true true
+    ∷ names.Amo amos.And widths.Eight false false ∷ names.Amo amos.And widths.Eight true false
+    ∷ names.Amo amos.And widths.Eight false true ∷ names.Amo amos.And widths.Eight true true
+    ∷ names.Amo amos.Or widths.Four false false ∷ names.Amo amos.Or widths.Four true false
+    ∷ names.Amo amos.Or widths.Four false true ∷ names.Amo amos.Or widths.Four true true
+    ∷ names.Amo amos.Or widths.Eight false false ∷ names.Amo amos.Or widths.Eight true false
+    ∷ names.Amo amos.Or widths.Eight false true ∷ names.Amo amos.Or widths.Eight true true
+    ∷ names.Amo amos.Min widths.Four false false ∷ names.Amo amos.Min widths.Four true false
+    ∷ names.Amo amos.Min widths.Four false true ∷ names.Amo amos.Min widths.Four true true
+    ∷ names.Amo amos.Min widths.Eight false false ∷ names.Amo amos.Min widths.Eight true false
+    ∷ names.Amo amos.Min widths.Eight false true ∷ names.Amo amos.Min widths.Eight true true
+    ∷ names.Amo amos.Max widths.Four false false ∷ names.Amo amos.Max widths.Four true false
+    ∷ names.Amo amos.Max widths.Four false true ∷ names.Amo amos.Max widths.Four true true
+    ∷ names.Amo amos.Max widths.Eight false false ∷ names.Amo amos.Max widths.Eight true false
+    ∷ names.Amo amos.Max widths.Eight false true ∷ names.Amo amos.Max widths.Eight true true
+    ∷ names.Amo amos.Minu widths.Four false false ∷ names.Amo amos.Minu widths.Four true false
+    ∷ names.Amo amos.Minu widths.Four false true ∷ names.Amo amos.Minu widths.Four true true
+    ∷ names.Amo amos.Minu widths.Eight false false ∷ names.Amo amos.Minu widths.Eight true false
+    ∷ names.Amo amos.Minu widths.Eight false true ∷ names.Amo amos.Minu widths.Eight true true
+    ∷ names.Amo amos.Maxu widths.Four false false ∷ names.Amo amos.Maxu widths.Four true false
+    ∷ names.Amo amos.Maxu widths.Four false true ∷ names.Amo amos.Maxu widths.Four true true
+    ∷ names.Amo amos.Maxu widths.Eight false false ∷ names.Amo amos.Maxu widths.Eight true false
+    ∷ names.Amo amos.Maxu widths.Eight false true ∷ names.Amo amos.Maxu widths.Eight true true ∷ names.Fence
+    ∷ names.Ecall ∷ names.Ebreak ∷ names.Sfence ∷ names.Word ∷ names.DoubleWord ∷ names.At ∷ []
 
 -- the statement whose name the word is
 unfoldable pub named : List ℕ → Option Name

@@ -12,7 +12,8 @@ IsNegative word n = (digits : List ℕ) × (word ≡ 45 ∷ digits) × IsDecimal
 
 -- the word is the number, of any size
 abbrev pub IsNumber : List ℕ → ℤ → Type 0
-IsNumber word n = (size : ℕ) × (((n ≡ pos size) × IsUnsigned word size) ⊎ ((n ≡ neg_ℤ (pos size)) × IsNegative word size))
+IsNumber word n =
+    (size : ℕ) × (((n ≡ pos size) × IsUnsigned word size) ⊎ ((n ≡ neg_ℤ (pos size)) × IsNegative word size))
 
 -- the word is x and the register's number, from 0 to 31 and without leading zeros
 abbrev pub IsRegisterName : List ℕ → ℕ → Type 0

@@ -45,7 +45,8 @@ AreWordsOf (statements.Fill count) words = words ≡ replicate count 0
 -- the words of the statements, one after the other
 abbrev pub AreWordsOfAll : List Statement → List ℕ → Type 0
 AreWordsOfAll [] words = words ≡ []
-AreWordsOfAll (statement ∷ others) words = (first rest : List ℕ) × AreWordsOf statement first × AreWordsOfAll others rest × (words ≡ first ++ rest)
+AreWordsOfAll (statement ∷ others) words =
+    (first rest : List ℕ) × AreWordsOf statement first × AreWordsOfAll others rest × (words ≡ first ++ rest)
 
 -- ---- labels
 
@@ -73,7 +74,8 @@ spotted n words label = option_to_list (option_map (λ name. (name, record { lin
 unfoldable pub labels_from : ℕ → ℕ → ℕ → List (List ℕ) → List (List ℕ × Spot)
 labels_from limit n words [] = []
 labels_from limit n words (line ∷ lines) =
-    spotted n words (label_of (body_of line)) ++ labels_from limit (n + 1) (words + words_in limit words (statement_text (body_of line))) lines
+    spotted n words (label_of (body_of line))
+    ++ labels_from limit (n + 1) (words + words_in limit words (statement_text (body_of line))) lines
 
 -- where a label stands first
 abbrev pub spot_in : List (List ℕ × Spot) → Spots
@@ -102,7 +104,8 @@ with_room limit words statement = if nat_lt limit (words + size_of statement) th
 -- the statement of this name
 abbrev pub statement_by : ℕ → Spots → ℕ → Option Name → List ℕ → Result Statement AsmKind
 statement_by limit spots words None operands = Err kinds.UnknownWord
-statement_by limit spots words (Some name) operands = statement_of limit spots words name (operands_of operands) >>= with_room limit words
+statement_by limit spots words (Some name) operands =
+    statement_of limit spots words name (operands_of operands) >>= with_room limit words
 
 -- the statement that the text is
 unfoldable pub text_of : ℕ → Spots → ℕ → List ℕ → Result Statement AsmKind
@@ -126,7 +129,8 @@ size_of_line None = 0
 size_of_line (Some statement) = size_of statement
 
 -- what follows a line, or its fault, at its number
-abbrev pub then_lines : ℕ → Result (Option Statement) AsmKind → (ℕ → Result (List Statement) AsmFault) → Result (List Statement) AsmFault
+abbrev pub then_lines : ℕ → Result (Option Statement) AsmKind → (ℕ → Result (List Statement) AsmFault)
+    → Result (List Statement) AsmFault
 then_lines n (Err kind) rest = Err (record { line = n; kind = kind })
 then_lines n (Ok line) rest = put_before line (rest (size_of_line line))
   where
@@ -137,7 +141,8 @@ then_lines n (Ok line) rest = put_before line (rest (size_of_line line))
 -- the statements of these lines, the first of which has this number and stands behind so many words
 unfoldable pub lines_from : ℕ → Spots → ℕ → ℕ → List (List ℕ) → Result (List Statement) AsmFault
 lines_from limit spots n words [] = Ok []
-lines_from limit spots n words (line ∷ lines) = then_lines n (line_of limit spots n words line) (λ size. lines_from limit spots (n + 1) (words + size) lines)
+lines_from limit spots n words (line ∷ lines) =
+    then_lines n (line_of limit spots n words line) (λ size. lines_from limit spots (n + 1) (words + size) lines)
 
 -- the most bytes of a text
 abbrev pub most_bytes : ℕ

@@ -56,7 +56,8 @@ immediate_in word = number_in (neg_ℤ (pos 2048)) (pos 2047) word
 abbrev pub register_in : List ℕ → Result ℕ AsmKind
 register_in word = or_bad (register_of word)
 
--- the distance in bytes from the statement behind so many words to a label, below half on either side; a text has four bytes a word
+-- the distance in bytes from the statement behind so many words to a label, below half on either side; a text has four
+-- bytes a word
 abbrev pub distance : ℤ → ℕ → Option Spot → Result ℤ AsmKind
 distance half words None = Err kinds.UnknownLabel
 distance half words (Some spot) = within (neg_ℤ half) (half -ℤ pos 1) (pos (4 * spot.words) -ℤ pos (4 * words))
@@ -86,7 +87,8 @@ based_of (b ∷ bs) = if is_open b && ends_close bs then register_of (take (leng
 abbrev pub based_in : List ℕ → Result ℕ AsmKind
 based_in word = or_bad (based_of word)
 
--- an operand that is an immediate of twelve bits and behind it a register between parentheses; both have their form before the number is looked at
+-- an operand that is an immediate of twelve bits and behind it a register between parentheses; both have their form
+-- before the number is looked at
 abbrev pub displaced_in : List ℕ → Result (ℤ × ℕ) AsmKind
 displaced_in word = do
   n ← or_bad (number_of (before_first is_open word))
@@ -94,7 +96,8 @@ displaced_in word = do
   imm ← within (neg_ℤ (pos 2048)) (pos 2047) n
   Ok (imm, base)
 
--- how many zero words there are up to a place in bytes: it is a multiple of four, not before the word at which the statement stands, and has at most limit words before it
+-- how many zero words there are up to a place in bytes: it is a multiple of four, not before the word at which the
+-- statement stands, and has at most limit words before it
 abbrev pub fill : ℕ → ℕ → ℤ → Result ℕ AsmKind
 fill limit words n =
     if not (int_le (pos (4 * words)) n && unsigned_abs n % 4 == 0) then Err kinds.OutOfRange
@@ -177,7 +180,8 @@ immediate_operands least most operands = do
 
 -- two registers and an immediate from least to most, and what they make
 abbrev pub immediate_of : ℤ → ℤ → (ℕ → ℕ → ℤ → Inst) → List (List ℕ) → Result Statement AsmKind
-immediate_of least most make operands = immediate_operands least most operands >>= λ p. Ok (statements.Make (make p.0 p.1 p.2))
+immediate_of least most make operands =
+    immediate_operands least most operands >>= λ p. Ok (statements.Make (make p.0 p.1 p.2))
 
 -- a register, an immediate and a base register
 abbrev pub displaced_operands : List (List ℕ) → Result (ℕ × ℤ × ℕ) AsmKind
@@ -260,7 +264,8 @@ double_word_statement operands = do
 abbrev pub fill_statement : ℕ → ℕ → List (List ℕ) → Result Statement AsmKind
 fill_statement limit at operands = fill_of limit at operands >>= λ count. Ok (statements.Fill count)
 
--- the statement of this name with these operands, behind so many words of a text that has at most limit words and whose labels stand at these spots
+-- the statement of this name with these operands, behind so many words of a text that has at most limit words and whose
+-- labels stand at these spots
 unfoldable pub statement_of : ℕ → Spots → ℕ → Name → List (List ℕ) → Result Statement AsmKind
 statement_of limit spots at (names.Upper op) operands = upper_statement op operands
 statement_of limit spots at names.Jal operands = jal_statement spots at operands
@@ -268,7 +273,8 @@ statement_of limit spots at names.Jalr operands = displaced insts.Jalr operands
 statement_of limit spots at (names.Branch op) operands = branch_statement spots at op operands
 statement_of limit spots at (names.Load op) operands = displaced (insts.Load op) operands
 statement_of limit spots at (names.Store op) operands = displaced (λ rs2 rs1 imm. insts.Store op rs1 rs2 imm) operands
-statement_of limit spots at (names.Imm op) operands = immediate_of (least_of (imm_form op)) (most_of (imm_form op)) (insts.Imm op) operands
+statement_of limit spots at (names.Imm op) operands =
+    immediate_of (least_of (imm_form op)) (most_of (imm_form op)) (insts.Imm op) operands
 statement_of limit spots at (names.Reg op) operands = registers_of (insts.Reg op) operands
 statement_of limit spots at (names.Mul op) operands = registers_of (insts.Mul op) operands
 statement_of limit spots at (names.Amo op width aq rl) operands = amo_statement op width aq rl operands

@@ -68,7 +68,9 @@ pub record IsB (word opcode funct3 rs1 rs2 : ℕ) (imm : ℤ) : Type 0 where
   pub low_fits : imm_4_1 < 2 ^ 4
   pub middle_fits : imm_10_5 < 2 ^ 6
   pub bit_12_fits : imm_12 < 2
-  pub fields : word ≡ opcode + 2 ^ 7 * imm_11 + 2 ^ 8 * imm_4_1 + 2 ^ 12 * funct3 + 2 ^ 15 * rs1 + 2 ^ 20 * rs2 + 2 ^ 25 * imm_10_5 + 2 ^ 31 * imm_12
+  pub fields : word
+      ≡ opcode + 2 ^ 7 * imm_11 + 2 ^ 8 * imm_4_1 + 2 ^ 12 * funct3 + 2 ^ 15 * rs1 + 2 ^ 20 * rs2 + 2 ^ 25 * imm_10_5
+      + 2 ^ 31 * imm_12
   pub extended : imm ≡ signed_reading (2 ^ 12) (2 * imm_4_1 + 2 ^ 5 * imm_10_5 + 2 ^ 11 * imm_11 + 2 ^ 12 * imm_12)
 
 -- format U: a destination and the bits 31 to 12 of an immediate of 32 bits whose low bits are 0

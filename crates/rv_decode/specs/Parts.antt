@@ -50,7 +50,9 @@ s_immediate_of word = signed_reading (2 ^ 11) (rd_of word + 2 ^ 5 * (word / 2 ^ 
 -- the immediate of a word of format B: the bits 31, 7, 30 to 25 and 11 to 8, then a 0
 abbrev pub b_immediate_of : ℕ → ℤ
 b_immediate_of word =
-    signed_reading (2 ^ 12) (2 * (word / 2 ^ 8 % 2 ^ 4) + 2 ^ 5 * (word / 2 ^ 25 % 2 ^ 6) + 2 ^ 11 * (word / 2 ^ 7 % 2) + 2 ^ 12 * (word / 2 ^ 31))
+    signed_reading (2 ^ 12)
+    (2 * (word / 2 ^ 8 % 2 ^ 4) + 2 ^ 5 * (word / 2 ^ 25 % 2 ^ 6) + 2 ^ 11 * (word / 2 ^ 7 % 2)
+    + 2 ^ 12 * (word / 2 ^ 31))
 
 -- the immediate of a word of format U: the bits 31 to 12, then twelve zeros
 abbrev pub u_immediate_of : ℕ → ℤ
@@ -59,7 +61,9 @@ u_immediate_of word = signed_reading (2 ^ 31) (2 ^ 12 * (word / 2 ^ 12))
 -- the immediate of a word of format J: the bits 31, 19 to 12, 20 and 30 to 21, then a 0
 abbrev pub j_immediate_of : ℕ → ℤ
 j_immediate_of word =
-    signed_reading (2 ^ 20) (2 * (word / 2 ^ 21 % 2 ^ 10) + 2 ^ 11 * (word / 2 ^ 20 % 2) + 2 ^ 12 * (word / 2 ^ 12 % 2 ^ 8) + 2 ^ 20 * (word / 2 ^ 31))
+    signed_reading (2 ^ 20)
+    (2 * (word / 2 ^ 21 % 2 ^ 10) + 2 ^ 11 * (word / 2 ^ 20 % 2) + 2 ^ 12 * (word / 2 ^ 12 % 2 ^ 8)
+    + 2 ^ 20 * (word / 2 ^ 31))
 
 -- the immediate of a word of this form: of a shift, its number, below the form's limit
 abbrev pub HasOperand : ℕ → ImmForm → ℤ → Type 0

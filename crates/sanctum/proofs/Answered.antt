@@ -31,23 +31,23 @@ pub ends_as : (May Might : Status → List ℕ → Type 0) (before after : Optio
 ends_as May Might before after result into e = record { intended = e.intended; text = e.text; may = into e.intended e.text e.may; printed = e.printed }
 
 -- what a script's run prints, the program prints
-run_text : (told : Option (List ℕ)) (script : List Line) → AreScript told script → (intended : Status) (text : List ℕ) → IsRunText script intended text → Says orders.Script told intended text
-run_text told script s answers.Ok text t = record { script = script; read = s; run = t }
-run_text told script s answers.Usage text t = absurd t
-run_text told script s (answers.ScriptRefused fault) text t = absurd t
-run_text told script s answers.ReadFault text t = absurd t
-run_text told script s answers.WriteFault text t = absurd t
-run_text told script s answers.OutOfMemory text t = t
-run_text told script s (answers.AsmRefused fault) text t = absurd t
+run_text : (told : Option (List ℕ)) (rose : Type 0) (script : List Line) → AreScript told script → (intended : Status) (text : List ℕ) → IsRunText script intended text → Says orders.Script told rose intended text
+run_text told rose script s answers.Ok text t = record { script = script; read = s; run = t }
+run_text told rose script s answers.Usage text t = absurd t
+run_text told rose script s (answers.ScriptRefused fault) text t = absurd t
+run_text told rose script s answers.ReadFault text t = absurd t
+run_text told rose script s answers.WriteFault text t = absurd t
+run_text told rose script s answers.OutOfMemory text t = t
+run_text told rose script s (answers.AsmRefused fault) text t = absurd t
 
 found_script : (told : Option (List ℕ)) (cores : List (List Line)) → IfSome told (λ bytes. IsScript None bytes cores) → length cores ≡ 1 → AreScript told (lines_of_core_0 cores)
 found_script None cores found one = tt
 found_script (Some bytes) cores found one = subst (IsScript None bytes) (single cores one) found
 
-pub ends_run : (told before after : Option (List ℕ)) (cores : List (List Line)) (result : Status) → IfSome told (λ bytes. IsScript None bytes cores) → length cores ≡ 1
-    → Ends (IsRunText (lines_of_core_0 cores)) before after result → Ends (Says orders.Script told) before after result
-ends_run told before after cores result found one e =
-    ends_as (IsRunText (lines_of_core_0 cores)) (Says orders.Script told) before after result (run_text told (lines_of_core_0 cores) (found_script told cores found one)) e
+pub ends_run : (told before after : Option (List ℕ)) (rose : Type 0) (cores : List (List Line)) (result : Status) → IfSome told (λ bytes. IsScript None bytes cores) → length cores ≡ 1
+    → Ends (IsRunText (lines_of_core_0 cores)) before after result → Ends (Says orders.Script told rose) before after result
+ends_run told before after rose cores result found one e =
+    ends_as (IsRunText (lines_of_core_0 cores)) (Says orders.Script told rose) before after result (run_text told rose (lines_of_core_0 cores) (found_script told cores found one)) e
 
 -- no result is both
 abbrev ok_of : List (List Line) → Result (List (List Line)) ScriptFault
@@ -61,9 +61,9 @@ fault_first : (told : Option (List ℕ)) (fault : ScriptFault) → FileOnly told
 fault_first None fault only exact = tt
 fault_first (Some bytes) fault only exact = record { first = exact; outside = λ script is. refused script fault (only script is) }
 
-pub fault_ends : (told before after : Option (List ℕ)) (error : ScriptError) (fault given : ScriptFault) (result : Status) → error ≡ errors.Fault fault → given ≡ fault → FileOnly told None (Err error) → FileExact told None (Err error)
-    → Prints before after (fault_line (answers.ScriptRefused given)) (answers.ScriptRefused given) result → Ends (Says orders.Script told) before after result
-fault_ends told before after error fault given result is same only exact printed = record {
+pub fault_ends : (told before after : Option (List ℕ)) (rose : Type 0) (error : ScriptError) (fault given : ScriptFault) (result : Status) → error ≡ errors.Fault fault → given ≡ fault → FileOnly told None (Err error) → FileExact told None (Err error)
+    → Prints before after (fault_line (answers.ScriptRefused given)) (answers.ScriptRefused given) result → Ends (Says orders.Script told rose) before after result
+fault_ends told before after rose error fault given result is same only exact printed = record {
   intended = answers.ScriptRefused fault;
   text = fault_line (answers.ScriptRefused fault);
   may = (refl, fault_first told fault (subst (λ (e : ScriptError). FileOnly told None (Err e)) is only) (subst (λ (e : ScriptError). FileExact told None (Err e)) is exact));

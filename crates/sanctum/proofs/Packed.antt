@@ -1,8 +1,8 @@
 -- From a file to the image of the words that it has.
-use Rattle.std.proofs.Common.{◌≡◌, ℕ, ◌+◌, ◌<◌, ◌≤◌, List, length, take, Option, Some, None, Err, refl, sym, ap, subst, ◌∙◌, arith, inl, inr}
+use Rattle.std.proofs.Common.{◌≡◌, ℕ, ◌+◌, ◌<◌, List, length, take, Option, Some, None, Err, refl, sym, subst, ◌∙◌, arith}
 use Rattle.std.specs.Prelude.{IfSome}
-use Rattle.std.proofs.lemmas.Bool.{cases_lt, lt-ltb}
-use Rattle.std.proofs.lemmas.List.{take_all, length-take}
+use Rattle.std.proofs.lemmas.Bool.{lt-ltb}
+use Rattle.std.proofs.lemmas.List.{take_all}
 use Rattle.mon_types.specs.Shape.{Shape}
 use Rattle.sm_ports.specs.Contents.{IsFile}
 use Rattle.rv_asm.specs.Grammar.{IsText}
@@ -22,26 +22,26 @@ use Rattle.text_in.proofs.Files.{cut_same, whole_file}
 use Rattle.sanctum.proofs.Answered.{ends_as}
 
 -- what words are packed as, the program writes
-pack_says : (shape : Shape) (told : Option (List ℕ)) (words : List ℕ) → IfSome told (λ bytes. IsText (word_limit shape) bytes words) → (intended : Status) (text : List ℕ) → IsPackText shape words intended text → Says (orders.Pack shape) told intended text
-pack_says shape told words read answers.Ok text t = record { words = words; read = read; packed = t }
-pack_says shape told words read answers.Usage text t = absurd t
-pack_says shape told words read (answers.ScriptRefused fault) text t = absurd t
-pack_says shape told words read answers.ReadFault text t = absurd t
-pack_says shape told words read answers.WriteFault text t = absurd t
-pack_says shape told words read answers.OutOfMemory text t = t
-pack_says shape told words read (answers.AsmRefused fault) text t = absurd t
+pack_says : (shape : Shape) (told : Option (List ℕ)) (rose : Type 0) (words : List ℕ) → IfSome told (λ bytes. IsText (word_limit shape) bytes words) → (intended : Status) (text : List ℕ) → IsPackText shape words intended text → Says (orders.Pack shape) told rose intended text
+pack_says shape told rose words read answers.Ok text t = record { words = words; read = read; packed = t }
+pack_says shape told rose words read answers.Usage text t = absurd t
+pack_says shape told rose words read (answers.ScriptRefused fault) text t = absurd t
+pack_says shape told rose words read answers.ReadFault text t = absurd t
+pack_says shape told rose words read answers.WriteFault text t = absurd t
+pack_says shape told rose words read answers.OutOfMemory text t = t
+pack_says shape told rose words read (answers.AsmRefused fault) text t = absurd t
 
-pub ends_pack : (shape : Shape) (bytes words : List ℕ) (before after : Option (List ℕ)) (result : Status) → IsText (word_limit shape) bytes words → Ends (IsPackText shape words) before after result → Ends (Says (orders.Pack shape) (Some bytes)) before after result
-ends_pack shape bytes words before after result read e = ends_as (IsPackText shape words) (Says (orders.Pack shape) (Some bytes)) before after result (pack_says shape (Some bytes) words read) e
+pub ends_pack : (shape : Shape) (rose : Type 0) (bytes words : List ℕ) (before after : Option (List ℕ)) (result : Status) → IsText (word_limit shape) bytes words → Ends (IsPackText shape words) before after result → Ends (Says (orders.Pack shape) (Some bytes) rose) before after result
+ends_pack shape rose bytes words before after result read e = ends_as (IsPackText shape words) (Says (orders.Pack shape) (Some bytes) rose) before after result (pack_says shape (Some bytes) rose words read) e
 
 -- a fault that was answered is the first one, and nothing is in the grammar
 fault_first : (limit : ℕ) (bytes : List ℕ) (fault : AsmFault) → Faults {X = List ℕ} (Err (errors.Fault fault)) (statements_of limit bytes) → ((words : List ℕ) → IsText limit bytes words → Gives (Err (errors.Fault fault)) words) → HasFirstAsmFault limit bytes fault
 fault_first limit bytes fault exact only = record { first = exact; outside = λ words is. only words is }
 
-pub asm_fault_ends : (shape : Shape) (limit : ℕ) (bytes : List ℕ) (before after : Option (List ℕ)) (error : AsmError) (fault given : AsmFault) (result : Status) → limit ≡ word_limit shape → error ≡ errors.Fault fault → given ≡ fault
+pub asm_fault_ends : (shape : Shape) (rose : Type 0) (limit : ℕ) (bytes : List ℕ) (before after : Option (List ℕ)) (error : AsmError) (fault given : AsmFault) (result : Status) → limit ≡ word_limit shape → error ≡ errors.Fault fault → given ≡ fault
     → Faults {X = List ℕ} (Err error) (statements_of limit bytes) → ((words : List ℕ) → IsText limit bytes words → Gives (Err error) words)
-    → Prints before after (fault_line (answers.AsmRefused given)) (answers.AsmRefused given) result → Ends (Says (orders.Pack shape) (Some bytes)) before after result
-asm_fault_ends shape limit bytes before after error fault given result same is told exact only printed = record {
+    → Prints before after (fault_line (answers.AsmRefused given)) (answers.AsmRefused given) result → Ends (Says (orders.Pack shape) (Some bytes) rose) before after result
+asm_fault_ends shape rose limit bytes before after error fault given result same is told exact only printed = record {
   intended = answers.AsmRefused fault;
   text = fault_line (answers.AsmRefused fault);
   may = (
@@ -74,26 +74,26 @@ read_output shape bytes text p = record {
 }
 
 -- what is said of the bytes that were read holds of the file
-file_says : (shape : Shape) (bytes : List ℕ) (status : Status) (text : List ℕ) → Says (orders.Pack shape) (Some (take (most_bytes + 1) bytes)) status text → Says (orders.Pack shape) (Some bytes) status text
-file_says shape bytes answers.Ok text t = read_output shape bytes text t
-file_says shape bytes answers.Usage text t = absurd t
-file_says shape bytes (answers.ScriptRefused fault) text t = absurd t.1
-file_says shape bytes answers.ReadFault text t = t
-file_says shape bytes answers.WriteFault text t = absurd t
-file_says shape bytes answers.OutOfMemory text t = t
-file_says shape bytes (answers.AsmRefused fault) text t = (t.0, cut_fault (word_limit shape) bytes fault t.1)
+file_says : (shape : Shape) (rose : Type 0) (bytes : List ℕ) (status : Status) (text : List ℕ) → Says (orders.Pack shape) (Some (take (most_bytes + 1) bytes)) ⊥ status text → Says (orders.Pack shape) (Some bytes) rose status text
+file_says shape rose bytes answers.Ok text t = read_output shape bytes text t
+file_says shape rose bytes answers.Usage text t = absurd t
+file_says shape rose bytes (answers.ScriptRefused fault) text t = absurd t.1
+file_says shape rose bytes answers.ReadFault text t = absurd t.0
+file_says shape rose bytes answers.WriteFault text t = absurd t
+file_says shape rose bytes answers.OutOfMemory text t = t
+file_says shape rose bytes (answers.AsmRefused fault) text t = (t.0, cut_fault (word_limit shape) bytes fault t.1)
 
-untold_says : (shape : Shape) (read : List ℕ) (status : Status) (text : List ℕ) → Says (orders.Pack shape) (Some read) status text → Says (orders.Pack shape) None status text
-untold_says shape read answers.Ok text t = record { words = t.words; read = tt; packed = t.packed }
-untold_says shape read answers.Usage text t = absurd t
-untold_says shape read (answers.ScriptRefused fault) text t = absurd t.1
-untold_says shape read answers.ReadFault text t = t
-untold_says shape read answers.WriteFault text t = absurd t
-untold_says shape read answers.OutOfMemory text t = t
-untold_says shape read (answers.AsmRefused fault) text t = (t.0, tt)
+untold_says : (shape : Shape) (rose : Type 0) (read : List ℕ) (status : Status) (text : List ℕ) → Says (orders.Pack shape) (Some read) ⊥ status text → Says (orders.Pack shape) None rose status text
+untold_says shape rose read answers.Ok text t = record { words = t.words; read = tt; packed = t.packed }
+untold_says shape rose read answers.Usage text t = absurd t
+untold_says shape rose read (answers.ScriptRefused fault) text t = absurd t.1
+untold_says shape rose read answers.ReadFault text t = absurd t.0
+untold_says shape rose read answers.WriteFault text t = absurd t
+untold_says shape rose read answers.OutOfMemory text t = t
+untold_says shape rose read (answers.AsmRefused fault) text t = (t.0, tt)
 
-pub ends_file : (shape : Shape) (told : Option (List ℕ)) (read : List ℕ) (before after : Option (List ℕ)) (result : Status) → IsFile told (most_bytes + 1) read → Ends (Says (orders.Pack shape) (Some read)) before after result → Ends (Says (orders.Pack shape) told) before after result
-ends_file shape None read before after result f e = ends_as (Says (orders.Pack shape) (Some read)) (Says (orders.Pack shape) None) before after result (untold_says shape read) e
-ends_file shape (Some bytes) read before after result f e =
-    ends_as (Says (orders.Pack shape) (Some (take (most_bytes + 1) bytes))) (Says (orders.Pack shape) (Some bytes)) before after result (file_says shape bytes)
-    (subst (λ (r : List ℕ). Ends (Says (orders.Pack shape) (Some r)) before after result) f e)
+pub ends_file : (shape : Shape) (told : Option (List ℕ)) (rose : Type 0) (read : List ℕ) (before after : Option (List ℕ)) (result : Status) → IsFile told (most_bytes + 1) read → Ends (Says (orders.Pack shape) (Some read) ⊥) before after result → Ends (Says (orders.Pack shape) told rose) before after result
+ends_file shape None rose read before after result f e = ends_as (Says (orders.Pack shape) (Some read) ⊥) (Says (orders.Pack shape) None rose) before after result (untold_says shape rose read) e
+ends_file shape (Some bytes) rose read before after result f e =
+    ends_as (Says (orders.Pack shape) (Some (take (most_bytes + 1) bytes)) ⊥) (Says (orders.Pack shape) (Some bytes) rose) before after result (file_says shape rose bytes)
+    (subst (λ (r : List ℕ). Ends (Says (orders.Pack shape) (Some r) ⊥) before after result) f e)

@@ -3,6 +3,7 @@ use Rattle.std.specs.Prelude.{ℕ}
 use Rattle.sanctum.specs.declared.status.Status.{Status}
 use Rattle.sanctum.specs.declared.status.Status.TheVariants as answers
 
+-- the exit status
 abbrev pub status_code : Status → ℕ
 status_code answers.Ok = 0
 status_code answers.Usage = 2

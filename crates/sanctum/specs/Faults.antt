@@ -11,6 +11,7 @@ use Rattle.rv_asm.specs.declared.fault.AsmFault.{AsmFault}
 use Rattle.sanctum.specs.declared.status.Status.{Status}
 use Rattle.sanctum.specs.declared.status.Status.TheVariants as answers
 
+-- what is wrong with a line of a script, as its fault line ends
 unfoldable pub kind_text : LineKind → List ℕ
 kind_text kinds.UnknownWord = codes " unknown word\n"
 kind_text kinds.MissingWord = codes " missing word\n"
@@ -22,18 +23,22 @@ kind_text kinds.BadCore = codes " bad core\n"
 unfoldable pub script_line_text : ℕ → List ℕ → List ℕ
 script_line_text line kind = codes "refused: script line " ++ decimal line ++ kind
 
+-- that its turns are too many
 unfoldable pub turns_over_text : List ℕ
 turns_over_text = codes " turns over\n"
 
+-- that lines of its form are not carried out yet
 unfoldable pub not_built_text : List ℕ
 not_built_text = codes " not built\n"
 
+-- the line of a fault of a script
 unfoldable pub script_fault_line : ScriptFault → List ℕ
 script_fault_line faults.TooLong = codes "refused: script too long\n"
 script_fault_line (faults.BadLine line kind) = script_line_text line (kind_text kind)
 script_fault_line (faults.TurnsOver line) = script_line_text line turns_over_text
 script_fault_line (faults.NotBuilt line) = script_line_text line not_built_text
 
+-- what is wrong with a line of an assembler text, as its fault line ends
 unfoldable pub asm_kind_text : AsmKind → List ℕ
 asm_kind_text asm_kinds.UnknownWord = codes " unknown word\n"
 asm_kind_text asm_kinds.BadOperand = codes " bad operand\n"
@@ -46,10 +51,11 @@ asm_kind_text asm_kinds.TooLong = codes " too long\n"
 unfoldable pub asm_line_text : ℕ → List ℕ → List ℕ
 asm_line_text line kind = codes "refused: asm line " ++ decimal line ++ kind
 
+-- the line of a fault of an assembler text
 abbrev pub asm_fault_line : AsmFault → List ℕ
 asm_fault_line fault = asm_line_text fault.line (asm_kind_text fault.kind)
 
--- there is none for Ok and for a write fault
+-- the line that an answer prints; there is none for Ok and for a write fault
 unfoldable pub fault_line : Status → List ℕ
 fault_line answers.Ok = []
 fault_line answers.Usage = codes "refused: usage\n"

@@ -92,22 +92,23 @@ abbrev pub IsGood : Order → List ℕ → Type 0
 IsGood orders.Script bytes = (script : List (List Line)) × IsScript None bytes script
 IsGood (orders.Pack shape) bytes = (words : List ℕ) × IsText (word_limit shape) bytes words
 
--- What is to be written for an answer: the command's output for Ok, one fault line for a refusal.
-abbrev pub Says : Order → Option (List ℕ) → Status → List ℕ → Type 0
-Says order told answers.Ok text = IsOutput order told text
-Says order told answers.Usage text = ⊥
-Says order told (answers.ScriptRefused fault) text =
+-- What is to be written for an answer: the command's output for Ok, one fault line for a refusal. A read fault comes
+-- only where `rose`: the depot's count of faults of the file rose.
+abbrev pub Says : Order → Option (List ℕ) → Type 0 → Status → List ℕ → Type 0
+Says order told rose answers.Ok text = IsOutput order told text
+Says order told rose answers.Usage text = ⊥
+Says order told rose (answers.ScriptRefused fault) text =
     (text ≡ fault_line (answers.ScriptRefused fault)) × IsScriptFault order told fault
-Says order told answers.ReadFault text = text ≡ fault_line answers.ReadFault
-Says order told answers.WriteFault text = ⊥
-Says order told answers.OutOfMemory text = text ≡ fault_line answers.OutOfMemory
-Says order told (answers.AsmRefused fault) text =
+Says order told rose answers.ReadFault text = rose × (text ≡ fault_line answers.ReadFault)
+Says order told rose answers.WriteFault text = ⊥
+Says order told rose answers.OutOfMemory text = text ≡ fault_line answers.OutOfMemory
+Says order told rose (answers.AsmRefused fault) text =
     (text ≡ fault_line (answers.AsmRefused fault)) × IsAsmFault order told fault
 
 -- The same by what the words ask for, over the files of a depot; words that ask for nothing give Usage.
-abbrev pub IsMeant : Option (List ℕ × Order) → (List ℕ → Option (List ℕ)) → Status → List ℕ → Type 0
-IsMeant None contents status text = (status ≡ answers.Usage) × (text ≡ fault_line answers.Usage)
-IsMeant (Some request) contents status text = Says request.1 (contents request.0) status text
+abbrev pub IsMeant : Option (List ℕ × Order) → (List ℕ → Option (List ℕ)) → (List ℕ → Type 0) → Status → List ℕ → Type 0
+IsMeant None contents rose status text = (status ≡ answers.Usage) × (text ≡ fault_line answers.Usage)
+IsMeant (Some request) contents rose status text = Says request.1 (contents request.0) (rose request.0) status text
 
 -- the answers that print one fault line
 abbrev pub IsRefusal : Status → Type 0

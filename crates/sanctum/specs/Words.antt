@@ -9,10 +9,12 @@ use Rattle.sanctum.specs.declared.words.Order.{Order}
 use Rattle.sanctum.specs.declared.words.Order.TheVariants as orders
 
 -- the name of the command that runs a script
+-- the word of the command that runs a script
 unfoldable pub script_word : List ℕ
 script_word = codes "script"
 
 -- the name of the command that makes an image
+-- the word of the command that makes an image
 unfoldable pub pack_word : List ℕ
 pack_word = codes "pack"
 
@@ -28,7 +30,11 @@ size_of cores regions pages shift =
 -- the size of a machine that four words say
 abbrev pub size_of_words : List ℕ → List ℕ → List ℕ → List ℕ → Option Shape
 size_of_words cores regions pages shift =
-    option_and_then (λ c. option_and_then (λ r. option_and_then (λ p. option_and_then (λ s. size_of c r p s) (number_of shift)) (number_of pages)) (number_of regions)) (number_of cores)
+    option_and_then
+    (λ c. option_and_then
+    (λ r. option_and_then (λ p. option_and_then (λ s. size_of c r p s) (number_of shift)) (number_of pages))
+    (number_of regions))
+    (number_of cores)
 
 -- `script SCRIPT`
 abbrev pub script_request : List ℕ → List ℕ → Option (List ℕ × Order)
@@ -36,7 +42,8 @@ script_request word file = if bytes_eq word script_word then Some (file, orders.
 
 -- `pack ASM CORES REGIONS PAGES SHIFT`
 abbrev pub pack_request : List ℕ → List ℕ → Option Shape → Option (List ℕ × Order)
-pack_request word file shape = if bytes_eq word pack_word then option_map (λ size. (file, orders.Pack size)) shape else None
+pack_request word file shape =
+    if bytes_eq word pack_word then option_map (λ size. (file, orders.Pack size)) shape else None
 
 -- the file that the words name, and what is asked of it; None where the words are no line of the table of commands
 abbrev pub request_of : List (String Global) → Option (List ℕ × Order)
@@ -47,5 +54,6 @@ request_of (word ∷ file ∷ cores ∷ []) = None
 request_of (word ∷ file ∷ cores ∷ regions ∷ []) = None
 request_of (word ∷ file ∷ cores ∷ regions ∷ pages ∷ []) = None
 request_of (word ∷ file ∷ cores ∷ regions ∷ pages ∷ shift ∷ []) =
-    pack_request (string_bytes word) (string_bytes file) (size_of_words (string_bytes cores) (string_bytes regions) (string_bytes pages) (string_bytes shift))
+    pack_request (string_bytes word) (string_bytes file)
+    (size_of_words (string_bytes cores) (string_bytes regions) (string_bytes pages) (string_bytes shift))
 request_of (word ∷ file ∷ cores ∷ regions ∷ pages ∷ shift ∷ other ∷ more) = None

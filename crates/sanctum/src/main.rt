@@ -57,6 +57,8 @@ mod edges;
 #[cfg(test)]
 mod enclave_rows;
 #[cfg(test)]
+mod fault_rows;
+#[cfg(test)]
 mod machine_rows;
 #[cfg(test)]
 mod refusal_rows;

@@ -1,6 +1,6 @@
 //! The command `pack`.
 
-ghost use Rattle.std.specs.Prelude.{◌≡◌, ◌≢◌, ◌≤◌, length, Some, OnOk, OnErr};
+ghost use Rattle.std.specs.Prelude.{◌≡◌, ◌≤◌, length, Some, OnOk, OnErr};
 ghost use Rattle.sm_ports.specs.Causes.{Rose};
 ghost use Rattle.image_read.specs.Image.{image_text, IsImage};
 ghost use Rattle.sanctum.specs.declared.words.Order.TheVariants as orders;
@@ -27,8 +27,7 @@ pub fn run_pack<D: Depot, K: Sink>(
     depot: &mut D,
     out: &mut K,
 ) -> Status
-    ensures ends { Ends (Says (orders.Pack config) (D.contents depot.old name.now)) (K.taken out.old) (K.taken out.new) result }
-    ensures read_fault { result ≡ Status.ReadFault → Rose (D.faults depot.old name.now) (D.faults depot.new name.now) }
+    ensures ends { Ends (Says (orders.Pack config) (D.contents depot.old name.now) (Rose (D.faults depot.old name.now) (D.faults depot.new name.now))) (K.taken out.old) (K.taken out.new) result }
     ensures write_fault { result ≡ Status.WriteFault → Rose (K.faults out.old) (K.faults out.new) }
 {
     match read_file(alloc, depot, name, LIMIT + 1) {
@@ -40,8 +39,7 @@ pub fn run_pack<D: Depot, K: Sink>(
 
 /// Assembles a text, and writes the image of a machine of this size.
 fn pack_text<K: Sink>(alloc: Global, bytes: &[u8], config: Config, out: &mut K) -> Status
-    ensures ends { Ends (Says (orders.Pack config) (Some bytes.now)) (K.taken out.old) (K.taken out.new) result }
-    ensures read_fault { result ≢ Status.ReadFault }
+    ensures ends { Ends (Says (orders.Pack config) (Some bytes.now) ⊥) (K.taken out.old) (K.taken out.new) result }
     ensures write_fault { result ≡ Status.WriteFault → Rose (K.faults out.old) (K.faults out.new) }
 {
     match assemble(alloc, bytes, word_limit(&config)) {
@@ -55,7 +53,6 @@ fn pack_text<K: Sink>(alloc: Global, bytes: &[u8], config: Config, out: &mut K) 
 fn pack_words<K: Sink>(alloc: Global, words: &[u32], config: Config, out: &mut K) -> Status
     requires { length words.now ≤ word_limit config }
     ensures ends { Ends (IsPackText config words.now) (K.taken out.old) (K.taken out.new) result }
-    ensures read_fault { result ≢ Status.ReadFault }
     ensures write_fault { result ≡ Status.WriteFault → Rose (K.faults out.old) (K.faults out.new) }
 {
     match packed_image(alloc, config, words) {

@@ -1,6 +1,6 @@
 //! The command `script`.
 
-ghost use Rattle.std.specs.Prelude.{◌≡◌, ◌≢◌};
+ghost use Rattle.std.specs.Prelude.{◌≡◌};
 ghost use Rattle.hist.specs.Logged.{events_of};
 ghost use Rattle.hist.specs.Legal.{Legal};
 ghost use Rattle.sm_ports.specs.Causes.{Rose};
@@ -26,8 +26,7 @@ pub fn run_script<D: Depot, K: Sink>(
     depot: &mut D,
     out: &mut K,
 ) -> Status
-    ensures ends { Ends (Says orders.Script (D.contents depot.old name.now)) (K.taken out.old) (K.taken out.new) result }
-    ensures read_fault { result ≡ Status.ReadFault → Rose (D.faults depot.old name.now) (D.faults depot.new name.now) }
+    ensures ends { Ends (Says orders.Script (D.contents depot.old name.now) (Rose (D.faults depot.old name.now) (D.faults depot.new name.now))) (K.taken out.old) (K.taken out.new) result }
     ensures write_fault { result ≡ Status.WriteFault → Rose (K.faults out.old) (K.faults out.new) }
 {
     match read_script(alloc, depot, name, None) {
@@ -42,7 +41,6 @@ pub fn run_script<D: Depot, K: Sink>(
 fn run_and_print<K: Sink>(alloc: Global, script: Script, out: &mut K) -> Status
     requires { IsOneScript script.cores }
     ensures ends { Ends (IsRunText (lines_of_core_0 script.cores)) (K.taken out.old) (K.taken out.new) result }
-    ensures read_fault { result ≢ Status.ReadFault }
     ensures write_fault { result ≡ Status.WriteFault → Rose (K.faults out.old) (K.faults out.new) }
 {
     match run_plain(alloc, script) {

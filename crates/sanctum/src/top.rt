@@ -41,9 +41,10 @@ pub fn sanctum<R: Threads + Sync, D: Depot, K: Sink, G: Gate>(
     ensures read_fault { result ≡ Status.ReadFault → IsSomeAnd (request_of words.now) (λ request. Rose (D.faults depot.old request.0) (D.faults depot.new request.0)) }
     ensures one_line { IsRefusal result → Appends (K.taken out.old) (K.taken out.new) (fault_line result) }
 
-    // A write fault comes only where the sink failed, which then has a proper prefix of what was to be written.
+    // A write fault comes only where the sink failed, which then has a proper prefix of what was to be written; what
+    // was to be written has its cause, a read fault too.
     ensures write_fault { result ≡ Status.WriteFault → Rose (K.faults out.old) (K.faults out.new) }
-    ensures front { result ≡ Status.WriteFault → (intended : Status) × (text : List ℕ) × IsMeant (request_of words.now) (D.contents depot.old) intended text × AppendsPart (K.taken out.old) (K.taken out.new) text }
+    ensures prefix { result ≡ Status.WriteFault → (intended : Status) × (text : List ℕ) × IsMeant (request_of words.now) (D.contents depot.old) (λ name. Rose (D.faults depot.old name) (D.faults depot.new name)) intended text × AppendsPart (K.taken out.old) (K.taken out.new) text }
 
     // Good words and a good file, with no count that rises, give the output, unless there is no memory.
     ensures complete { (name bytes : List ℕ) (order : Order) → request_of words.now ≡ Some (name, order) → D.contents depot.old name ≡ Some bytes → IsGood order bytes → (Rose (D.faults depot.old name) (D.faults depot.new name) → ⊥) → (Rose (K.faults out.old) (K.faults out.new) → ⊥) → (result ≡ Status.Ok) ⊎ (result ≡ Status.OutOfMemory) }
@@ -58,8 +59,7 @@ fn carry_out<D: Depot, K: Sink>(
     depot: &mut D,
     out: &mut K,
 ) -> Status
-    ensures ends { Ends (IsMeant (request_of words.now) (D.contents depot.old)) (K.taken out.old) (K.taken out.new) result }
-    ensures read_fault { result ≡ Status.ReadFault → IsSomeAnd (request_of words.now) (λ request. Rose (D.faults depot.old request.0) (D.faults depot.new request.0)) }
+    ensures ends { Ends (IsMeant (request_of words.now) (D.contents depot.old) (λ name. Rose (D.faults depot.old name) (D.faults depot.new name))) (K.taken out.old) (K.taken out.new) result }
     ensures write_fault { result ≡ Status.WriteFault → Rose (K.faults out.old) (K.faults out.new) }
 {
     match request_of_words(words) {
@@ -76,8 +76,7 @@ fn serve<D: Depot, K: Sink>(
     depot: &mut D,
     out: &mut K,
 ) -> Status
-    ensures ends { Ends (Says order (D.contents depot.old name.now)) (K.taken out.old) (K.taken out.new) result }
-    ensures read_fault { result ≡ Status.ReadFault → Rose (D.faults depot.old name.now) (D.faults depot.new name.now) }
+    ensures ends { Ends (Says order (D.contents depot.old name.now) (Rose (D.faults depot.old name.now) (D.faults depot.new name.now))) (K.taken out.old) (K.taken out.new) result }
     ensures write_fault { result ≡ Status.WriteFault → Rose (K.faults out.old) (K.faults out.new) }
 {
     match order {

@@ -52,7 +52,9 @@ FileFound told cores result = IfSome told (λ bytes. IfOk result (λ s. IsScript
 
 -- a file that is in the grammar is read as the script that it is, unless memory ran out or the depot failed
 abbrev pub FileOnly : Option (List ℕ) → Option ℕ → Result Script ScriptError → Type 0
-FileOnly told cores result = IfSome told (λ bytes. (script : List (List Line)) → IsScript cores bytes script → FileGives (λ s. s.cores) result (Ok script))
+FileOnly told cores result =
+    IfSome told (λ bytes. (script : List (List Line)) → IsScript cores bytes script
+    → FileGives (λ s. s.cores) result (Ok script))
 
 -- the answer is what reading the file's bytes gives, with its first fault, unless memory ran out or the depot failed
 abbrev pub FileExact : Option (List ℕ) → Option ℕ → Result Script ScriptError → Type 0

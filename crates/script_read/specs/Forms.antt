@@ -19,8 +19,10 @@ form_name forms.SetReg = codes "reg"
 -- every form, each once; the calls by number, all but 15, with how many arguments each takes
 abbrev pub all_forms : List Form
 all_forms =
-    forms.Named 1 1 ∷ forms.Named 2 1 ∷ forms.Named 3 2 ∷ forms.Named 4 0 ∷ forms.Named 5 1 ∷ forms.Named 6 3 ∷ forms.Named 7 4 ∷ forms.Named 8 5
-    ∷ forms.Named 9 4 ∷ forms.Named 10 1 ∷ forms.Named 11 2 ∷ forms.Named 12 1 ∷ forms.Named 13 2 ∷ forms.Named 14 0 ∷ forms.Named 16 0 ∷ forms.Named 17 2
+    forms.Named 1 1 ∷ forms.Named 2 1 ∷ forms.Named 3 2 ∷ forms.Named 4 0 ∷ forms.Named 5 1 ∷ forms.Named 6 3
+    ∷ forms.Named 7 4 ∷ forms.Named 8 5
+    ∷ forms.Named 9 4 ∷ forms.Named 10 1 ∷ forms.Named 11 2 ∷ forms.Named 12 1 ∷ forms.Named 13 2 ∷ forms.Named 14 0
+    ∷ forms.Named 16 0 ∷ forms.Named 17 2
     ∷ forms.Named 18 6 ∷ forms.Named 19 1 ∷ forms.Named 20 1 ∷ forms.Named 21 1 ∷ forms.Named 22 1 ∷ forms.Named 23 4
     ∷ forms.Ecall ∷ forms.Tick ∷ forms.SetPc ∷ forms.SetReg ∷ []
 
@@ -60,7 +62,8 @@ pc_line pc = if pc % 4 == 0 then Some (lines.SetPc pc) else None
 abbrev pub reg_line : ℕ → ℕ → Option Line
 reg_line x value = if nat_le 1 x && nat_le x 31 then Some (lines.SetReg x value) else None
 
--- the line with these seven arguments, of which it takes as many as it has a use for; None where one of them may not stand there
+-- the line with these seven arguments, of which it takes as many as it has a use for; None where one of them may not
+-- stand there
 abbrev pub form_line : Form → List ℕ → Option Line
 form_line (forms.Named number arity) args =
     let arg = slice_index args in

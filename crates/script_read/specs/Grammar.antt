@@ -27,7 +27,8 @@ abbrev pub AreArguments : (ℕ → Bool) → ℕ → List (List ℕ) → List �
 AreArguments os_there place [] [] = ⊤
 AreArguments os_there place [] (n ∷ ns) = ⊥
 AreArguments os_there place (word ∷ words) [] = ⊥
-AreArguments os_there place (word ∷ words) (n ∷ ns) = IsArgument os_there place word n × AreArguments os_there (place + 1) words ns
+AreArguments os_there place (word ∷ words) (n ∷ ns) =
+    IsArgument os_there place word n × AreArguments os_there (place + 1) words ns
 
 -- the words are these numbers, none of them `os`
 abbrev pub AreNumbers : List (List ℕ) → List ℕ → Type 0
@@ -51,7 +52,9 @@ pub record IsCallLine (words : List (List ℕ)) (call : Call) : Type 0 where
   pub words_are : words ≡ call_name call ∷ args
   pub are_arguments : AreArguments (is_owner_place call) 0 args (call_args call)
 
--- the words are `ecall`, a number, and 0 to 6 further numbers; the call is the one of that number with those, and 0 for each that is missing: those for which it has no use are dropped, and where the number stands for no call it is Unknown with all six
+-- the words are `ecall`, a number, and 0 to 6 further numbers; the call is the one of that number with those, and 0 for
+-- each that is missing: those for which it has no use are dropped, and where the number stands for no call it is
+-- Unknown with all six
 pub record IsEcallLine (words : List (List ℕ)) (call : Call) : Type 0 where
   pub number : ℕ
   pub args : List ℕ
@@ -76,7 +79,8 @@ pub record IsRegLine (words : List (List ℕ)) (x value : ℕ) : Type 0 where
   pub from : 1 ≤ x
   pub to : x ≤ 31
 
--- what the words of a line stand for: no words, a call by its name or by its number, tick, pc or reg; so far no run, load or store
+-- what the words of a line stand for: no words, a call by its name or by its number, tick, pc or reg; so far no run,
+-- load or store
 abbrev pub StandsFor : List (List ℕ) → Option Line → Type 0
 StandsFor words None = words ≡ []
 StandsFor words (Some (lines.Make call)) = IsCallLine words call ⊎ IsEcallLine words call
@@ -101,7 +105,9 @@ pub record IsLine (text : List ℕ) (line : Option Line) : Type 0 where
 -- the texts of lines stand for these lines, empty ones for none
 abbrev pub AreLines : List (List ℕ) → List Line → Type 0
 AreLines [] made = made ≡ []
-AreLines (text ∷ texts) made = (line : Option Line) × (others : List Line) × IsLine text line × (made ≡ option_to_list line ++ others) × AreLines texts others
+AreLines (text ∷ texts) made =
+    (line : Option Line) × (others : List Line) × IsLine text line × (made ≡ option_to_list line ++ others)
+    × AreLines texts others
 
 -- ---- the whole file
 

@@ -61,7 +61,8 @@ line_in n (Some form) words = at_line n (form_read form words)
 -- what the words of the line of this number stand for
 unfoldable pub line_of_words : ℕ → List (List ℕ) → Result (Option Line) ScriptFault
 line_of_words n [] = Ok None
-line_of_words n (word ∷ words) = if is_later_word word then Err (faults.NotBuilt n) else line_in n (form_named word) words
+line_of_words n (word ∷ words) =
+    if is_later_word word then Err (faults.NotBuilt n) else line_in n (form_named word) words
 
 -- what the line of this number stands for
 unfoldable pub line_of : ℕ → List ℕ → Result (Option Line) ScriptFault

@@ -1,5 +1,4 @@
 use Rattle.std.proofs.Common.{ap, subst}
-use Rattle.mon_types.specs.declared.script.Line.{Line}
 use Rattle.hist.specs.declared.finished.Finished.{Finished}
 use Rattle.hist.specs.Logged.{events_of}
 use Rattle.hist.specs.Legal.{Legal, HasLastTables}

@@ -1,0 +1,155 @@
+//! Each kind of fault of a script and of an assembler text at its line, each answer of the top call with its
+//! exit status, and the reads that one file takes.
+
+use crate::tests::{run, words_of};
+use crate::top::sanctum;
+use sm_ports::{Depot, Failed, OpenGate, VecSink};
+use std::alloc::Global;
+use std::process::Abort;
+use std::test::Fail;
+use std::thread::Threads;
+
+/// A line of each kind of fault, and how its fault line ends.
+const SCRIPT_FAULTS: [(&str, &str); 16] = [
+    ("blok 3", "unknown word"),
+    ("flush\u{e9}", "unknown word"),
+    ("block", "missing word"),
+    ("assign 3", "missing word"),
+    ("ecall", "missing word"),
+    ("flush 1", "extra word"),
+    ("ecall 1 2 3 4 5 6 7 8", "extra word"),
+    ("block x", "bad number"),
+    ("block 18446744073709551616", "bad number"),
+    ("reg 32 0", "bad number"),
+    ("reg 0 0", "bad number"),
+    ("pc 2", "bad number"),
+    ("run 1", "not built"),
+    ("load 0", "not built"),
+    ("store 0 0", "not built"),
+    ("core 0", "not built"),
+];
+
+/// The same of assembler texts, with the number of the line at which the fault is found, behind two lines
+/// that are well.
+const ASM_FAULTS: [(&str, u32, &str); 12] = [
+    ("ecal", 3, "unknown word"),
+    ("addi: ecall", 3, "unknown word"),
+    ("addi x1, x2", 3, "bad operand"),
+    ("ecall x1", 3, "bad operand"),
+    ("addi x32, x0, 0", 3, "bad operand"),
+    ("addi x1, x0, 2048", 3, "out of range"),
+    ("jal x0, 3", 3, "out of range"),
+    (".word 4294967296", 3, "out of range"),
+    (".at 2", 3, "out of range"),
+    ("jal x0, nowhere", 3, "unknown label"),
+    ("l: ecall\nl: ecall", 4, "double label"),
+    (".at 32772", 3, "too long"),
+];
+
+#[test]
+fn each_kind_of_fault_at_its_line(rt: HostRuntime) -> Result<(), Fail> {
+    let alloc = rt.alloc();
+    for (line, kind) in SCRIPT_FAULTS {
+        let script = format!(in alloc; "flush\n# well\n{line}\nblok\n")?;
+        let (status, out) = run(&rt, alloc, &["script", "S"], script.as_bytes(), &[])?;
+        let want = format!(in alloc; "refused: script line 3 {kind}\n")?;
+        assert_eq!(rt; status.code(), 4, "{line}");
+        assert_eq!(rt; out.as_slice(), want.as_bytes(), "{line}");
+    }
+    for (statement, at, kind) in ASM_FAULTS {
+        let text = format!(in alloc; "ecall\n# well\n{statement}\necal\n")?;
+        let words = ["pack", "S", "1", "8", "1", "0"];
+        let (status, out) = run(&rt, alloc, &words, text.as_bytes(), &[])?;
+        let want = format!(in alloc; "refused: asm line {at} {kind}\n")?;
+        assert_eq!(rt; status.code(), 9, "{statement}");
+        assert_eq!(rt; out.as_slice(), want.as_bytes(), "{statement}");
+    }
+    Ok(())
+}
+
+/// The three cases of row `usage`, and numbers that are no line of the table.
+#[test]
+fn usage(rt: HostRuntime) -> Result<(), Fail> {
+    let alloc = rt.alloc();
+    for words in [
+        [].as_slice(),
+        &["run", "a"],
+        &["load", "1", "17"],
+        &["script"],
+        &["script", "S", "S"],
+        &["--version"],
+        &["pack", "S", "1", "8", "1", "1"],
+        &["pack", "S", "1", "8", "1", "0", "0"],
+    ] {
+        let (status, out) = run(&rt, alloc, words, b"", &[])?;
+        assert_eq!(rt; status.code(), 2);
+        assert_eq!(rt; out.as_slice(), "refused: usage\n".as_bytes());
+    }
+    Ok(())
+}
+
+/// How many reads a noted depot notes.
+const NOTED: usize = 300;
+
+/// One file of so many bytes, all of them number signs, that notes from where each read asks for how much.
+#[derive(Drop)]
+struct NotedDepot {
+    size: u64,
+    reads: [(u64, usize); NOTED],
+    count: usize,
+}
+
+impl Depot for NotedDepot {
+    ghost use Rattle.std.specs.Prelude.{None};
+
+    ghost contents = { λ _ _. None };
+
+    ghost faults = { λ _ _. 0 };
+
+    fn read_at(&mut self, _name: &str, at: u64, into: &mut [u8]) -> Result<usize, Failed> {
+        if self.count < NOTED {
+            self.reads[self.count] = (at, into.len());
+            self.count += 1;
+        }
+        let left = self.size.saturating_sub(at) as usize;
+        let n = left.min(into.len());
+        for byte in &mut into[..n] {
+            *byte = b'#';
+        }
+        Ok(n)
+    }
+}
+
+/// A file is read in pieces of 4,096 bytes, each from where the last ended, up to its end or to one byte past
+/// the limit.
+#[test]
+fn the_reads_that_one_file_takes(rt: HostRuntime) -> Result<(), Fail> {
+    let alloc = rt.alloc();
+    for (size, whole, last, code) in [
+        (0, 0u16, (0, 4096), 0),
+        (1, 1, (1, 4096), 0),
+        (4096, 1, (4096, 4096), 0),
+        (4097, 2, (4097, 4096), 0),
+        (10_000, 3, (10_000, 4096), 0),
+        (1_048_576, 256, (1_048_576, 1), 0),
+        (1_048_577, 256, (1_048_576, 1), 4),
+        (2_000_000, 256, (1_048_576, 1), 4),
+    ] {
+        let whole = usize::from(whole);
+        let mut depot = NotedDepot {
+            size,
+            reads: [(0, 0); NOTED],
+            count: 0,
+        };
+        let mut out = VecSink::new(alloc, 1 << 12, Vec::new(alloc))?;
+        let words = words_of(alloc, &["script", "S"])?;
+        let status = sanctum(&rt, alloc, &words, &mut depot, &mut out, &OpenGate);
+        assert_eq!(rt; status.code(), code, "{size}");
+        assert_eq!(rt; depot.count, whole + 1, "{size}");
+        assert_eq!(rt; depot.reads.get(whole).copied(), Some(last), "{size}");
+        for (k, read) in depot.reads.iter().take(whole).enumerate() {
+            assert_eq!(rt; *read, (4096 * k as u64, 4096), "{size}");
+        }
+    }
+    Ok(())
+}
