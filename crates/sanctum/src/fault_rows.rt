@@ -9,60 +9,78 @@ use std::process::Abort;
 use std::test::Fail;
 use std::thread::Threads;
 
-/// A line of each kind of fault, and how its fault line ends.
-const SCRIPT_FAULTS: [(&str, &str); 16] = [
-    ("blok 3", "unknown word"),
-    ("flush\u{e9}", "unknown word"),
-    ("block", "missing word"),
-    ("assign 3", "missing word"),
-    ("ecall", "missing word"),
-    ("flush 1", "extra word"),
-    ("ecall 1 2 3 4 5 6 7 8", "extra word"),
-    ("block x", "bad number"),
-    ("block 18446744073709551616", "bad number"),
-    ("reg 32 0", "bad number"),
-    ("reg 0 0", "bad number"),
-    ("pc 2", "bad number"),
-    ("run 1", "not built"),
-    ("load 0", "not built"),
-    ("store 0 0", "not built"),
-    ("core 0", "not built"),
-];
+/// A line of a script of each kind of fault, and how its fault line ends.
+const SCRIPT_FAULTS: &str = "\
+blok 3 | unknown word
+flushé | unknown word
+block | missing word
+assign 3 | missing word
+ecall | missing word
+flush 1 | extra word
+ecall 1 2 3 4 5 6 7 8 | extra word
+block x | bad number
+block 18446744073709551616 | bad number
+reg 32 0 | bad number
+reg 0 0 | bad number
+pc 2 | bad number
+run 1 | not built
+load 0 | not built
+store 0 0 | not built
+core 0 | not built
+";
 
-/// The same of assembler texts, with the number of the line at which the fault is found, behind two lines
-/// that are well.
-const ASM_FAULTS: [(&str, u32, &str); 12] = [
-    ("ecal", 3, "unknown word"),
-    ("addi: ecall", 3, "unknown word"),
-    ("addi x1, x2", 3, "bad operand"),
-    ("ecall x1", 3, "bad operand"),
-    ("addi x32, x0, 0", 3, "bad operand"),
-    ("addi x1, x0, 2048", 3, "out of range"),
-    ("jal x0, 3", 3, "out of range"),
-    (".word 4294967296", 3, "out of range"),
-    (".at 2", 3, "out of range"),
-    ("jal x0, nowhere", 3, "unknown label"),
-    ("l: ecall\nl: ecall", 4, "double label"),
-    (".at 32772", 3, "too long"),
-];
+/// The same of assembler texts.
+const ASM_FAULTS: &str = "\
+ecal | unknown word
+addi: ecall | unknown word
+addi x1, x2 | bad operand
+ecall x1 | bad operand
+addi x32, x0, 0 | bad operand
+addi x1, x0, 2048 | out of range
+jal x0, 3 | out of range
+.word 4294967296 | out of range
+.at 2 | out of range
+jal x0, nowhere | unknown label
+m: ecall | double label
+.at 32772 | too long
+";
+
+/// Runs the words over a file, whose third line is at fault, and checks the fault line.
+fn check_fault<R: Threads + Sync + Abort>(
+    rt: &R,
+    alloc: Global,
+    words: &[&str],
+    file: &str,
+    code: u8,
+    want: &str,
+) -> Result<(), Fail> {
+    let (status, out) = run(rt, alloc, words, file.as_bytes(), &[])?;
+    assert_eq!(rt; status.code(), code, "{file}");
+    assert_eq!(rt; out.as_slice(), want.as_bytes(), "{file}");
+    Ok(())
+}
 
 #[test]
-fn each_kind_of_fault_at_its_line(rt: HostRuntime) -> Result<(), Fail> {
+fn each_kind_of_script_fault_at_its_line(rt: HostRuntime) -> Result<(), Fail> {
     let alloc = rt.alloc();
-    for (line, kind) in SCRIPT_FAULTS {
+    for row in SCRIPT_FAULTS.lines() {
+        let (line, kind) = row.split_once(" | ").ok_or("a row without a kind")?;
         let script = format!(in alloc; "flush\n# well\n{line}\nblok\n")?;
-        let (status, out) = run(&rt, alloc, &["script", "S"], script.as_bytes(), &[])?;
         let want = format!(in alloc; "refused: script line 3 {kind}\n")?;
-        assert_eq!(rt; status.code(), 4, "{line}");
-        assert_eq!(rt; out.as_slice(), want.as_bytes(), "{line}");
+        check_fault(&rt, alloc, &["script", "S"], &script, 4, &want)?;
     }
-    for (statement, at, kind) in ASM_FAULTS {
-        let text = format!(in alloc; "ecall\n# well\n{statement}\necal\n")?;
-        let words = ["pack", "S", "1", "8", "1", "0"];
-        let (status, out) = run(&rt, alloc, &words, text.as_bytes(), &[])?;
-        let want = format!(in alloc; "refused: asm line {at} {kind}\n")?;
-        assert_eq!(rt; status.code(), 9, "{statement}");
-        assert_eq!(rt; out.as_slice(), want.as_bytes(), "{statement}");
+    Ok(())
+}
+
+#[test]
+fn each_kind_of_assembler_fault_at_its_line(rt: HostRuntime) -> Result<(), Fail> {
+    let alloc = rt.alloc();
+    let words = ["pack", "S", "1", "8", "1", "0"];
+    for row in ASM_FAULTS.lines() {
+        let (line, kind) = row.split_once(" | ").ok_or("a row without a kind")?;
+        let text = format!(in alloc; "ecall\nm: ebreak # well\n{line}\necal\n")?;
+        let want = format!(in alloc; "refused: asm line 3 {kind}\n")?;
+        check_fault(&rt, alloc, &words, &text, 9, &want)?;
     }
     Ok(())
 }
