@@ -22,8 +22,8 @@ pub const LIMIT: usize = 1_048_576;
 
 /// The words of an assembler text, of which there may be `limit`.
 ///
-/// `AsmError::Fault` is the first fault of the text; it comes exactly where the text is outside the
-/// grammar, has more words than `limit` or more bytes than `LIMIT`.
+/// `AsmError::Fault` is the first fault of the text; it comes only where the text is outside the grammar,
+/// has more words than `limit` or more bytes than `LIMIT`, and always there unless memory runs out.
 pub fn assemble(alloc: Global, text: &[u8], limit: u32) -> Result<Vec<u32>, AsmError>
     // What is assembled is in the grammar, with these words.
     ensures found { IfOk result (λ words. IsText limit text.now words.items) }

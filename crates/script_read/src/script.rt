@@ -21,9 +21,9 @@ pub const LIMIT: usize = 1_048_576;
 /// Reads a script from a file of the depot. Where a count of cores is given, at least 1, the script has a
 /// list of lines for each core below it, and where none is given for each core that it names.
 ///
-/// `ScriptError::Fault` is the first fault of the file's bytes; it comes exactly where they are outside
-/// the grammar or more than `LIMIT`. `ScriptError::Read` comes only where the depot's count of faults of
-/// `name` rose in this call.
+/// `ScriptError::Fault` is the first fault of the file's bytes; it comes only where they are outside the
+/// grammar or more than `LIMIT`, and always there unless memory or a read fails. `ScriptError::Read`
+/// comes only where the depot's count of faults of `name` rose in this call.
 pub fn read_script<D: Depot>(
     alloc: Global,
     depot: &mut D,
@@ -77,8 +77,8 @@ fn widen(parsed: Result<Script, ParseError>) -> Result<Script, ScriptError>
 /// Reads a script from its bytes. Where a count of cores is given, at least 1, the script has a list of
 /// lines for each core below it, and where none is given for each core that it names.
 ///
-/// `ParseError::Fault` is the first fault of the bytes; it comes exactly where they are outside the
-/// grammar or more than `LIMIT`.
+/// `ParseError::Fault` is the first fault of the bytes; it comes only where they are outside the
+/// grammar or more than `LIMIT`, and always there unless memory runs out.
 pub fn parse_script(alloc: Global, bytes: &[u8], cores: Option<u8>) -> Result<Script, ParseError>
     requires { IfSome cores (λ count. 1 ≤ count) }
     // What is read is in the grammar.
