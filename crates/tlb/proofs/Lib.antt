@@ -1,0 +1,4 @@
+pub mod InSets
+pub mod Joined
+pub mod Filled
+pub mod Held
