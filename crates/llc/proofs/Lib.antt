@@ -1,0 +1,12 @@
+pub mod Different
+pub mod Held
+pub mod Own
+pub mod Reversed
+pub mod Places
+pub mod Whole
+pub mod PutFirst
+pub mod Accessed
+pub mod Heads
+pub mod TraceLaws
+pub mod Walking
+pub mod Files

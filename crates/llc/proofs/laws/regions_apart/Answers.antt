@@ -1,0 +1,8 @@
+use Rattle.llc.proofs.Own.{own_hits_hold, same_hits_hold}
+use Rattle.llc.proofs.laws.regions_apart.Goals as goal
+
+pub returns-clause-own : goal.returns-clause-own
+returns-clause-own c = own_hits_hold
+
+pub returns-clause-same : goal.returns-clause-same
+returns-clause-same c = same_hits_hold

@@ -1,0 +1,7 @@
+pub mod Colours
+pub mod Hits
+pub mod Regions
+pub mod Sets
+pub mod Grammar
+pub mod Reading
+pub mod Answers

@@ -1,0 +1,25 @@
+//! The shared cache of a machine whose regions colour it, as a model that counts hits: lines of 64 bytes,
+//! 64 sets for each region, 1 to 16 lines in a set, and the least recently used line is dropped.
+//!
+//! Accesses of two regions never meet in a set, so a region's hits depend on its own accesses alone.
+#![tactic(auto)]
+
+mod cache;
+mod cache_set;
+mod fault;
+mod laws;
+mod line;
+mod read;
+mod run;
+#[cfg(test)]
+mod tests;
+#[cfg(test)]
+mod text_tests;
+mod trace;
+
+pub use cache::Llc;
+pub use fault::{ParseError, TraceError, TraceFault};
+pub use laws::regions_apart;
+pub use read::{LIMIT, parse_trace, read_trace};
+pub use run::hits;
+pub use trace::Trace;
