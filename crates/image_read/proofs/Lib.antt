@@ -1,2 +1,9 @@
 mod Tallies
-mod Short
+pub mod Short
+pub mod Shapes
+pub mod ReadFields
+pub mod ReadLoops
+pub mod Found
+pub mod FoundParts
+pub mod Again
+pub mod ImageFiles

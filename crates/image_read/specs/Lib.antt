@@ -1,2 +1,5 @@
 pub mod Image
 pub mod Told
+pub mod Grammar
+pub mod Reading
+pub mod Answers
