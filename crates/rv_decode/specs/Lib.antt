@@ -1,3 +1,4 @@
 pub mod Formats
 pub mod Parts
 pub mod Table
+pub mod Decoded

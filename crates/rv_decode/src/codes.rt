@@ -11,6 +11,7 @@ ghost use Rattle.rv_decode.specs.declared.op.ImmOp.{ImmOp};
 ghost use Rattle.rv_decode.specs.declared.op.RegOp.{RegOp};
 ghost use Rattle.rv_decode.specs.Table.{upper_opcode, branch_funct3, load_funct3, store_funct3, imm_form, reg_code, mul_code, amo_code};
 ghost use Rattle.rv_decode.specs.Parts.{HasForm, FormFits};
+ghost use Rattle.rv_decode.specs.Decoded.{upper_op_of, branch_op_of, load_op_of, store_op_of, imm_op_of, reg_op_of, mul_op_of, amo_op_of};
 
 use crate::op::{BranchOp, ImmOp, LoadOp, RegOp, StoreOp, UpperOp};
 use rv_ext::{AmoOp, MulOp};
@@ -47,6 +48,7 @@ pub fn upper_opcode(op: UpperOp) -> u32
 pub fn upper_op(opcode: u32) -> Option<UpperOp>
     ensures found { IfSome result (λ op. upper_opcode op ≡ opcode) }
     ensures only { (op : UpperOp) → upper_opcode op ≡ opcode → result ≡ Some op }
+    ensures whole { result ≡ upper_op_of opcode }
 {
     match opcode {
         0x37 => Some(UpperOp::Lui),
@@ -74,6 +76,7 @@ pub fn branch_funct3(op: BranchOp) -> u32
 pub fn branch_op(funct3: u32) -> Option<BranchOp>
     ensures found { IfSome result (λ op. branch_funct3 op ≡ funct3) }
     ensures only { (op : BranchOp) → branch_funct3 op ≡ funct3 → result ≡ Some op }
+    ensures whole { result ≡ branch_op_of funct3 }
 {
     match funct3 {
         0 => Some(BranchOp::Beq),
@@ -106,6 +109,7 @@ pub fn load_funct3(op: LoadOp) -> u32
 pub fn load_op(funct3: u32) -> Option<LoadOp>
     ensures found { IfSome result (λ op. load_funct3 op ≡ funct3) }
     ensures only { (op : LoadOp) → load_funct3 op ≡ funct3 → result ≡ Some op }
+    ensures whole { result ≡ load_op_of funct3 }
 {
     match funct3 {
         0 => Some(LoadOp::Lb),
@@ -136,6 +140,7 @@ pub fn store_funct3(op: StoreOp) -> u32
 pub fn store_op(funct3: u32) -> Option<StoreOp>
     ensures found { IfSome result (λ op. store_funct3 op ≡ funct3) }
     ensures only { (op : StoreOp) → store_funct3 op ≡ funct3 → result ≡ Some op }
+    ensures whole { result ≡ store_op_of funct3 }
 {
     match funct3 {
         0 => Some(StoreOp::Sb),
@@ -180,6 +185,7 @@ pub fn imm_form(op: ImmOp) -> ImmForm
 pub fn imm_op(opcode: u32, funct3: u32, upper: u32) -> Option<ImmOp>
     ensures found { IfSome result (λ op. HasForm opcode funct3 upper (imm_form op)) }
     ensures only { (op : ImmOp) → HasForm opcode funct3 upper (imm_form op) → result ≡ Some op }
+    ensures whole { result ≡ imm_op_of opcode funct3 upper }
 {
     match (opcode, funct3, upper) {
         (0x13, 0, _) => Some(ImmOp::Addi),
@@ -229,6 +235,7 @@ pub fn reg_code(op: RegOp) -> (u32, u32, u32)
 pub fn reg_op(opcode: u32, funct3: u32, funct7: u32) -> Option<RegOp>
     ensures found { IfSome result (λ op. reg_code op ≡ (opcode, funct3, funct7)) }
     ensures only { (op : RegOp) → reg_code op ≡ (opcode, funct3, funct7) → result ≡ Some op }
+    ensures whole { result ≡ reg_op_of opcode funct3 funct7 }
 {
     match (opcode, funct3, funct7) {
         (0x33, 0, 0x00) => Some(RegOp::Add),
@@ -277,6 +284,7 @@ pub fn mul_code(op: MulOp) -> (u32, u32)
 pub fn mul_op(opcode: u32, funct3: u32) -> Option<MulOp>
     ensures found { IfSome result (λ op. mul_code op ≡ (opcode, funct3)) }
     ensures only { (op : MulOp) → mul_code op ≡ (opcode, funct3) → result ≡ Some op }
+    ensures whole { result ≡ mul_op_of opcode funct3 }
 {
     match (opcode, funct3) {
         (0x33, 0) => Some(MulOp::Mul),
@@ -318,6 +326,7 @@ pub fn amo_code(op: AmoOp) -> u32
 pub fn amo_op(code: u32) -> Option<AmoOp>
     ensures found { IfSome result (λ op. amo_code op ≡ code) }
     ensures only { (op : AmoOp) → amo_code op ≡ code → result ≡ Some op }
+    ensures whole { result ≡ amo_op_of code }
 {
     match code {
         0x01 => Some(AmoOp::Swap),

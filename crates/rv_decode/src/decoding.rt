@@ -13,6 +13,7 @@ ghost use Rattle.rv_decode.specs.declared.inst.Inst.{Inst};
 ghost use Rattle.rv_decode.specs.declared.inst.Inst.TheVariants as insts;
 ghost use Rattle.rv_decode.specs.Table.{IsInst, IsRow};
 ghost use Rattle.rv_decode.specs.Parts.{HasOperand, opcode_of};
+ghost use Rattle.rv_decode.specs.Decoded.{amo_size_of, upper_of, jal_of, jalr_of, branch_of, load_of, store_of, operand_of, immediate_of, multiplication_of, operation_of, registers_of, atomic_of, fence_of, sfence_of, system_of, decoded};
 
 use crate::codes::{
     ImmForm, amo_op, branch_op, imm_form, imm_op, load_op, mul_op, reg_op, store_op, upper_op,
@@ -24,6 +25,7 @@ use crate::inst::Inst;
 fn upper(word: u32) -> Option<Inst>
     ensures found { IfSome result (IsRow word) }
     ensures only { (op : UpperOp) (rd : ℕ) (imm : ℤ) → IsRow word (insts.Upper op rd imm) → result ≡ Some (insts.Upper op rd imm) }
+    ensures whole { result ≡ upper_of word }
 {
     let op = upper_op(opcode(word))?;
     Some(Inst::Upper {
@@ -37,6 +39,7 @@ fn jal(word: u32) -> Inst
     requires { opcode_of word ≡ 0x6f }
     ensures found { IsRow word result }
     ensures only { (rd : ℕ) (imm : ℤ) → IsRow word (insts.Jal rd imm) → result ≡ insts.Jal rd imm }
+    ensures whole { result ≡ jal_of word }
 {
     Inst::Jal {
         rd: rd(word),
@@ -48,6 +51,7 @@ fn jalr(word: u32) -> Option<Inst>
     requires { opcode_of word ≡ 0x67 }
     ensures found { IfSome result (IsRow word) }
     ensures only { (rd rs1 : ℕ) (imm : ℤ) → IsRow word (insts.Jalr rd rs1 imm) → result ≡ Some (insts.Jalr rd rs1 imm) }
+    ensures whole { result ≡ jalr_of word }
 {
     if funct3(word) != 0 {
         return None;
@@ -63,6 +67,7 @@ fn branch(word: u32) -> Option<Inst>
     requires { opcode_of word ≡ 0x63 }
     ensures found { IfSome result (IsRow word) }
     ensures only { (op : BranchOp) (rs1 rs2 : ℕ) (imm : ℤ) → IsRow word (insts.Branch op rs1 rs2 imm) → result ≡ Some (insts.Branch op rs1 rs2 imm) }
+    ensures whole { result ≡ branch_of word }
 {
     let op = branch_op(funct3(word))?;
     Some(Inst::Branch {
@@ -77,6 +82,7 @@ fn load(word: u32) -> Option<Inst>
     requires { opcode_of word ≡ 0x03 }
     ensures found { IfSome result (IsRow word) }
     ensures only { (op : LoadOp) (rd rs1 : ℕ) (imm : ℤ) → IsRow word (insts.Load op rd rs1 imm) → result ≡ Some (insts.Load op rd rs1 imm) }
+    ensures whole { result ≡ load_of word }
 {
     let op = load_op(funct3(word))?;
     Some(Inst::Load {
@@ -91,6 +97,7 @@ fn store(word: u32) -> Option<Inst>
     requires { opcode_of word ≡ 0x23 }
     ensures found { IfSome result (IsRow word) }
     ensures only { (op : StoreOp) (rs1 rs2 : ℕ) (imm : ℤ) → IsRow word (insts.Store op rs1 rs2 imm) → result ≡ Some (insts.Store op rs1 rs2 imm) }
+    ensures whole { result ≡ store_of word }
 {
     let op = store_op(funct3(word))?;
     Some(Inst::Store {
@@ -106,6 +113,7 @@ fn store(word: u32) -> Option<Inst>
 fn operand(word: u32, form: ImmForm) -> Option<i64>
     ensures found { IfSome result (HasOperand word form) }
     ensures only { (imm : ℤ) → HasOperand word form imm → result ≡ Some imm }
+    ensures whole { result ≡ operand_of word form }
 {
     match form {
         ImmForm::Plain { .. } => Some(i_immediate(word)),
@@ -123,6 +131,7 @@ fn operand(word: u32, form: ImmForm) -> Option<i64>
 fn immediate(word: u32) -> Option<Inst>
     ensures found { IfSome result (IsRow word) }
     ensures only { (op : ImmOp) (rd rs1 : ℕ) (imm : ℤ) → IsRow word (insts.Imm op rd rs1 imm) → result ≡ Some (insts.Imm op rd rs1 imm) }
+    ensures whole { result ≡ immediate_of word }
 {
     let op = imm_op(opcode(word), funct3(word), word / (2 * FUNCT7))?;
     let imm = operand(word, imm_form(op))?;
@@ -138,6 +147,7 @@ fn multiplication(word: u32) -> Option<Inst>
     requires { word / 2 ^ 25 ≡ 1 }
     ensures found { IfSome result (IsRow word) }
     ensures only { (op : MulOp) (rd rs1 rs2 : ℕ) → IsRow word (insts.Mul op rd rs1 rs2) → result ≡ Some (insts.Mul op rd rs1 rs2) }
+    ensures whole { result ≡ multiplication_of word }
 {
     let op = mul_op(opcode(word), funct3(word))?;
     Some(Inst::Mul {
@@ -151,6 +161,7 @@ fn multiplication(word: u32) -> Option<Inst>
 fn operation(word: u32) -> Option<Inst>
     ensures found { IfSome result (IsRow word) }
     ensures only { (op : RegOp) (rd rs1 rs2 : ℕ) → IsRow word (insts.Reg op rd rs1 rs2) → result ≡ Some (insts.Reg op rd rs1 rs2) }
+    ensures whole { result ≡ operation_of word }
 {
     let op = reg_op(opcode(word), funct3(word), funct7(word))?;
     Some(Inst::Reg {
@@ -166,6 +177,7 @@ fn registers(word: u32) -> Option<Inst>
     ensures found { IfSome result (IsRow word) }
     ensures only_reg { (op : RegOp) (rd rs1 rs2 : ℕ) → IsRow word (insts.Reg op rd rs1 rs2) → result ≡ Some (insts.Reg op rd rs1 rs2) }
     ensures only_mul { (op : MulOp) (rd rs1 rs2 : ℕ) → IsRow word (insts.Mul op rd rs1 rs2) → result ≡ Some (insts.Mul op rd rs1 rs2) }
+    ensures whole { result ≡ registers_of word }
 {
     if funct7(word) == 1 {
         multiplication(word)
@@ -179,6 +191,7 @@ fn amo_size(funct3: u32) -> Option<u8>
     ensures found { IfSome result (λ size. ((size ≡ 4) × (funct3 ≡ 2)) ⊎ ((size ≡ 8) × (funct3 ≡ 3))) }
     ensures four { funct3 ≡ 2 → result ≡ Some 4 }
     ensures eight { funct3 ≡ 3 → result ≡ Some 8 }
+    ensures whole { result ≡ amo_size_of funct3 }
 {
     match funct3 {
         2 => Some(4),
@@ -191,6 +204,7 @@ fn atomic(word: u32) -> Option<Inst>
     requires { opcode_of word ≡ 0x2f }
     ensures found { IfSome result (IsRow word) }
     ensures only { (op : AmoOp) (size : ℕ) (aq rl : Bool) (rd rs1 rs2 : ℕ) → IsRow word (insts.Amo op size aq rl rd rs1 rs2) → result ≡ Some (insts.Amo op size aq rl rd rs1 rs2) }
+    ensures whole { result ≡ atomic_of word }
 {
     let op = amo_op(funct7(word) / 4)?;
     let size = amo_size(funct3(word))?;
@@ -209,6 +223,7 @@ fn fence(word: u32) -> Option<Inst>
     requires { opcode_of word ≡ 0x0f }
     ensures found { IfSome result (IsRow word) }
     ensures only { (rd rs1 : ℕ) (imm : ℤ) → IsRow word (insts.Fence rd rs1 imm) → result ≡ Some (insts.Fence rd rs1 imm) }
+    ensures whole { result ≡ fence_of word }
 {
     if funct3(word) != 0 {
         return None;
@@ -224,6 +239,7 @@ fn sfence(word: u32) -> Option<Inst>
     requires { opcode_of word ≡ 0x73 }
     ensures found { IfSome result (IsRow word) }
     ensures only { (rs1 rs2 : ℕ) → IsRow word (insts.Sfence rs1 rs2) → result ≡ Some (insts.Sfence rs1 rs2) }
+    ensures whole { result ≡ sfence_of word }
 {
     if rd(word) != 0 || funct3(word) != 0 || funct7(word) != 0x09 {
         return None;
@@ -240,6 +256,7 @@ fn system(word: u32) -> Option<Inst>
     ensures only_ecall { IsRow word insts.Ecall → result ≡ Some insts.Ecall }
     ensures only_ebreak { IsRow word insts.Ebreak → result ≡ Some insts.Ebreak }
     ensures only_sfence { (rs1 rs2 : ℕ) → IsRow word (insts.Sfence rs1 rs2) → result ≡ Some (insts.Sfence rs1 rs2) }
+    ensures whole { result ≡ system_of word }
 {
     match word {
         0x00000073 => Some(Inst::Ecall),
@@ -250,10 +267,12 @@ fn system(word: u32) -> Option<Inst>
 
 /// The instruction whose word this is; None exactly where the word is in no row of the instruction
 /// table.
+#[tactic(auto, unfolding(crate::specs::Decoded::decoded))]
 pub fn decode(word: u32) -> Option<Inst>
     ensures found { IfSome result (IsRow word) }
     ensures valid { IfSome result IsInst }
     ensures only { (inst : Inst) → IsRow word inst → result ≡ Some inst }
+    ensures whole { result ≡ decoded word }
 {
     match opcode(word) {
         0x37 | 0x17 => upper(word),

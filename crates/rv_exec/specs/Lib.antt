@@ -1,3 +1,4 @@
 pub mod Operations
 pub mod Loads
 pub mod Effects
+pub mod Sizes

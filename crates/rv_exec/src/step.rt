@@ -3,6 +3,7 @@
 ghost use Rattle.std.specs.Prelude.{◌≡◌};
 ghost use Rattle.rv_decode.specs.Table.{IsInst, IsRegister};
 ghost use Rattle.rv_exec.specs.Effects.{register, plus, at_next, at_target, upper_value, loading, storing, effect_of};
+ghost use Rattle.rv_exec.specs.Sizes.{HasSizes};
 
 use crate::effect::Effect;
 use crate::operation::{compute, register_operation, takes_branch};
@@ -11,10 +12,12 @@ use rv_ext::{bits_of, multiply};
 
 /// What an instruction does at `pc`, where `regs` holds the values of the registers; register 0 reads
 /// 0 whatever stands there. A branch that is taken and a jump whose target is no multiple of 4 are
-/// `Trap` with cause 0 and the target.
+/// `Trap` with cause 0 and the target. A load and a store have 1, 2, 4 or 8 bytes, an atomic instruction
+/// 4 or 8.
 pub fn execute(inst: &Inst, pc: u64, regs: &[u64; 32]) -> Effect
     requires { IsInst inst.now }
-    ensures { result ≡ effect_of inst.now pc regs.now }
+    ensures effect { result ≡ effect_of inst.now pc regs.now }
+    ensures sizes { HasSizes result }
 {
     match *inst {
         Inst::Upper { op, rd, imm } => go_on(pc, rd, upper(op, pc, imm)),
@@ -82,7 +85,8 @@ fn offset(x: u64, imm: i64) -> u64
 }
 
 fn go_on(pc: u64, rd: u8, value: u64) -> Effect
-    ensures { result ≡ at_next pc rd value }
+    ensures effect { result ≡ at_next pc rd value }
+    ensures sizes { HasSizes result }
 {
     Effect::Next {
         pc: pc.wrapping_add(4),
@@ -92,7 +96,8 @@ fn go_on(pc: u64, rd: u8, value: u64) -> Effect
 }
 
 fn go_to(target: u64, rd: u8, value: u64) -> Effect
-    ensures { result ≡ at_target target rd value }
+    ensures effect { result ≡ at_target target rd value }
+    ensures sizes { HasSizes result }
 {
     if target.is_multiple_of(4) {
         Effect::Next {
@@ -118,7 +123,8 @@ fn upper(op: UpperOp, pc: u64, imm: i64) -> u64
 }
 
 fn load(op: LoadOp, address: u64, rd: u8) -> Effect
-    ensures { result ≡ loading op address rd }
+    ensures effect { result ≡ loading op address rd }
+    ensures sizes { HasSizes result }
 {
     let (size, signed) = match op {
         LoadOp::Lb => (1, true),
@@ -138,7 +144,8 @@ fn load(op: LoadOp, address: u64, rd: u8) -> Effect
 }
 
 fn store(op: StoreOp, address: u64, value: u64) -> Effect
-    ensures { result ≡ storing op address value }
+    ensures effect { result ≡ storing op address value }
+    ensures sizes { HasSizes result }
 {
     let (size, value) = match op {
         StoreOp::Sb => (1, value % (1 << 8)),
