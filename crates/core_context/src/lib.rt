@@ -1,9 +1,11 @@
-//! A core's pc and registers, and what the change of context that a monitor call ends with makes of them.
+//! A core's pc and registers, and what a monitor call makes of them: the change of context that it ends with, and the
+//! registers of a call that a guest makes.
 #![tactic(auto)]
 
 mod after;
 mod context;
 mod contexts;
+mod guest;
 #[cfg(test)]
 mod tests;
 
