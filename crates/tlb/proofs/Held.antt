@@ -4,11 +4,12 @@ use Rattle.std.specs.Prelude.{slice_set}
 use Rattle.std.proofs.lemmas.Bool.{cases_eq, cases_lt}
 use Rattle.sv39_pte.specs.declared.pte.Access.{Access}
 use Rattle.tlb.specs.declared.entry.Entry.{Entry}
-use Rattle.tlb.specs.Cache.{set_room, set_of, page_for, in_set, filled}
+use Rattle.tlb.specs.Cache.{set_room, set_of, page_for, HasOneEach, in_set, filled}
 use Rattle.tlb.specs.Sets.{sets_of, joined, by_set, FitsInSets, set_at, set_filled, sets_filled, AreSets}
 use Rattle.tlb.proofs.InSets.{in_set-none}
 use Rattle.tlb.proofs.Joined.{sets_of-by_set, set_at-sets_of, page_in_sets}
 use Rattle.tlb.proofs.Filled.{sets_of-filled, length-set_filled}
+use Rattle.tlb.proofs.One.{one_by_set, fills_keep_one_each, none_twice}
 
 -- the four sets after a fill are those of the list after it
 pub filled_sets : (sets : List (List Entry)) (e : Entry) → AreSets sets
@@ -45,10 +46,11 @@ stay_sets sets e are = record {
       ∙ sets_of-by_set (filled (joined sets) e)
       ∙ sym (filled_sets sets e are);
   few = λ k. at_own sets e are k (cases_eq k (set_of e.vpn));
+  one = subst HasOneEach (sym (joined_filled sets e are)) (one_by_set (filled (joined sets) e) (fills_keep_one_each (joined sets) e are.one));
 }
 
 pub empty_sets : AreSets ([] ∷ [] ∷ [] ∷ [] ∷ [])
-empty_sets = record { own = refl; few = λ k. few_in_none k }
+empty_sets = record { own = refl; few = λ k. few_in_none k; one = none_twice }
   where
     few_in_none : (k : ℕ) → length (set_at ([] ∷ [] ∷ [] ∷ [] ∷ []) k) ≤ set_room
     few_in_none zero = omega arith
@@ -86,6 +88,9 @@ set_index sets x vpn are =
 pub fit_now : (sets : List (List Entry)) (es : List Entry) → AreSets sets → joined sets ≡ es → FitsInSets es
 fit_now sets es are is = subst FitsInSets is (fit_in_sets sets are)
 
+pub one_now : (sets : List (List Entry)) (es : List Entry) → AreSets sets → joined sets ≡ es → HasOneEach es
+one_now sets es are is = subst HasOneEach is are.one
+
 pub page_now : (sets : List (List Entry)) (es x : List Entry) (vpn : ℕ) (access : Access) → AreSets sets
     → joined sets ≡ es → page_for (get_or sets (vpn % 4) x) vpn access ≡ page_for es vpn access
 page_now sets es x vpn access are is =
@@ -111,6 +116,10 @@ joined_at sets es e new are here is =
 pub fit_at : (sets : List (List Entry)) (e : Entry) (new : List Entry) → AreSets sets
     → new ≡ set_filled (set_at sets (set_of e.vpn)) e → FitsInSets (joined (slice_set sets (set_of e.vpn) new))
 fit_at sets e new are is = fit_in_sets (slice_set sets (set_of e.vpn) new) (stay_at sets e new are is)
+
+pub one_at : (sets : List (List Entry)) (e : Entry) (new : List Entry) → AreSets sets
+    → new ≡ set_filled (set_at sets (set_of e.vpn)) e → HasOneEach (joined (slice_set sets (set_of e.vpn) new))
+one_at sets e new are is = (stay_at sets e new are is).one
 
 pub new_set : (sets : List (List Entry)) (x new : List Entry) (e : Entry) → AreSets sets
     → new ≡ set_filled (get_or sets (e.vpn % 4) x) e → new ≡ set_filled (set_at sets (set_of e.vpn)) e

@@ -1,6 +1,6 @@
 -- The translation cache as one list of entries, the oldest first: what an access finds in it, and what a fill makes of
 -- it. This project's own.
-use Rattle.std.specs.Prelude.{ℕ, ◌%◌, Bool, ◌==◌, not, ◌&&◌, nat_lt, if◌then◌else◌, List, [], ◌∷◌, ◌++◌, length, filter, find, Option}
+use Rattle.std.specs.Prelude.{ℕ, ◌%◌, ◌≤◌, Bool, ◌==◌, not, ◌&&◌, nat_lt, if◌then◌else◌, List, [], ◌∷◌, ◌++◌, length, filter, find, Option, Some, None}
 use Rattle.std.specs.Option.{option_map}
 use Rattle.sv39_pte.specs.declared.pte.Access.{Access}
 use Rattle.sv39_pte.specs.declared.pte.Access.TheVariants as accesses
@@ -34,6 +34,25 @@ serves vpn access e = e.vpn == vpn && allows e access
 -- the page of the entry that serves an access; None where none does, also where one is found that forbids the access
 abbrev pub page_for : List Entry → ℕ → Access → Option ℕ
 page_for es vpn access = option_map (λ e. e.page) (find (serves vpn access) es)
+
+-- ---- one entry for each virtual page
+
+-- the entries of a virtual page
+abbrev pub of_page : ℕ → List Entry → List Entry
+of_page vpn es = filter (λ e. e.vpn == vpn) es
+
+-- no virtual page has two entries
+abbrev pub HasOneEach : List Entry → Type 0
+HasOneEach es = (vpn : ℕ) → length (of_page vpn es) ≤ 1
+
+-- the page of an entry, where there is one and it lets the access happen
+abbrev pub page_if_allowed : Access → Option Entry → Option ℕ
+page_if_allowed access None = None
+page_if_allowed access (Some e) = if allows e access then Some e.page else None
+
+-- the page of the one entry of a virtual page, where that lets the access happen
+abbrev pub page_of_one : List Entry → ℕ → Access → Option ℕ
+page_of_one es vpn access = page_if_allowed access (find (λ e. e.vpn == vpn) es)
 
 -- ---- what a fill makes of it
 

@@ -2,7 +2,7 @@
 use Rattle.std.specs.Prelude.{◌≡◌, ℕ, List, [], ◌∷◌}
 use Rattle.sv39_pte.specs.declared.pte.Access.{Access}
 use Rattle.tlb.specs.declared.entry.Entry.{Entry}
-use Rattle.tlb.specs.Cache.{page_for, filled}
+use Rattle.tlb.specs.Cache.{page_for, page_of_one, HasOneEach, filled}
 use Rattle.tlb.specs.Sets.{by_set, FitsInSets}
 
 -- an access finds in a list what it finds set after set
@@ -30,3 +30,16 @@ RunsBySet = (fills : List Entry) → filled_by_set [] fills ≡ by_set (filled_i
 -- a fill leaves no set with more than four entries
 abbrev pub FillsFitInSets : Type 0
 FillsFitInSets = (es : List Entry) (e : Entry) → FitsInSets es → FitsInSets (filled es e)
+
+-- a fill leaves no virtual page with two entries
+abbrev pub FillsKeepOneEach : Type 0
+FillsKeepOneEach = (es : List Entry) (e : Entry) → HasOneEach es → HasOneEach (filled es e)
+
+-- from an empty cache on, fills leave no virtual page with two entries
+abbrev pub RunsHaveOneEach : Type 0
+RunsHaveOneEach = (fills : List Entry) → HasOneEach (filled_in_turn [] fills)
+
+-- where no virtual page has two entries, the first entry that serves an access is the one entry of its virtual page
+abbrev pub LooksAtOne : Type 0
+LooksAtOne = (es : List Entry) (vpn : ℕ) (access : Access) → HasOneEach es
+    → page_for es vpn access ≡ page_of_one es vpn access

@@ -3,7 +3,7 @@
 use Rattle.std.specs.Prelude.{◌≡◌, ℕ, ◌≤◌, nat_lt, if◌then◌else◌, List, [], ◌∷◌, ◌++◌, drop, length, slice_set}
 use Rattle.std.specs.List.{flat_map, slice_index_or}
 use Rattle.tlb.specs.declared.entry.Entry.{Entry}
-use Rattle.tlb.specs.Cache.{set_room, set_of, of_others, in_set}
+use Rattle.tlb.specs.Cache.{set_room, set_of, HasOneEach, of_others, in_set}
 
 -- the four sets, each the list of its entries
 abbrev pub sets_of : List Entry → List (List Entry)
@@ -39,7 +39,8 @@ set_filled es e = set_with_room (of_others e.vpn es) ++ e ∷ []
 abbrev pub sets_filled : List (List Entry) → Entry → List (List Entry)
 sets_filled sets e = slice_set sets (set_of e.vpn) (set_filled (set_at sets (set_of e.vpn)) e)
 
--- four sets that are those of their entries, none with more than four
+-- four sets that are those of their entries, none with more than four and none with two of one virtual page
 pub record AreSets (sets : List (List Entry)) : Type 0 where
   pub own : sets_of (joined sets) ≡ sets
   pub few : (set : ℕ) → length (set_at sets set) ≤ set_room
+  pub one : HasOneEach (joined sets)

@@ -1,7 +1,7 @@
 //! The cache and its sets.
 
 ghost use Rattle.std.specs.Prelude.{◌≡◌, ◌≤◌, [], length};
-ghost use Rattle.tlb.specs.Cache.{set_room, entry_of, page_for, filled};
+ghost use Rattle.tlb.specs.Cache.{set_room, entry_of, page_for, page_of_one, HasOneEach, filled};
 ghost use Rattle.tlb.specs.Sets.{by_set, set_filled, FitsInSets};
 
 use crate::entry::Entry;
@@ -91,9 +91,11 @@ impl Tlb {
     }
 
     /// The page of DRAM that is found for an access to a virtual page; None where no entry of that page
-    /// permits the access.
+    /// permits the access. A page has one entry at most.
     pub fn look(&self, vpn: u64, access: Access) -> Option<u16>
         ensures page { result ≡ page_for self.now vpn access }
+        ensures one { result ≡ page_of_one self.now vpn access }
+        ensures one_each { HasOneEach self.now }
         ensures fits { FitsInSets self.now }
     {
         self.sets[(vpn % 4) as usize].look(vpn, access)
@@ -103,6 +105,7 @@ impl Tlb {
     /// and fetch from as is said.
     pub fn fill(&mut self, vpn: u64, page: u16, load: bool, store: bool, fetch: bool)
         ensures filled { self.new ≡ by_set (filled self.old (entry_of vpn page load store fetch)) }
+        ensures one_each { HasOneEach self.new }
         ensures fits { FitsInSets self.new }
     {
         let entry = Entry {

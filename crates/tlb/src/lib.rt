@@ -10,4 +10,4 @@ mod laws;
 mod tests;
 
 pub use cache::Tlb;
-pub use laws::{fills_fit_in_sets, order_between_sets_is_not_seen};
+pub use laws::{each_page_has_one_entry, fills_fit_in_sets, order_between_sets_is_not_seen};
