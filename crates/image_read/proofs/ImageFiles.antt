@@ -10,10 +10,12 @@ use Rattle.image_read.specs.declared.fault.ImageFault.TheVariants as faults
 use Rattle.image_read.specs.declared.fault.ParseError.{ParseError}
 use Rattle.image_read.specs.declared.fault.ParseError.TheVariants as errors
 use Rattle.image_read.specs.declared.fault.ImageError.{ImageError}
+use Rattle.image_read.specs.Image.{most_cores, IsImage}
 use Rattle.image_read.specs.Grammar.{IsImageText}
 use Rattle.image_read.specs.Reading.{limit, image_of}
 use Rattle.image_read.specs.Answers.{Gives, FileGives, FileFound, FileOnly, FileExact, widened}
 use Rattle.image_read.proofs.Again.{image_again}
+use Rattle.image_read.proofs.Shapes.{few_cores}
 
 long_image : (bytes : List ℕ) → limit < length bytes → image_of bytes ≡ Err faults.TooLong
 unfolding image_of
@@ -58,3 +60,22 @@ file_found (Some bytes) read parsed r f h found e = subst (λ (x : Result Image 
 pub file_only : (told : Option (List ℕ)) (r : Result Image ImageError) → FileExact told r → FileOnly told r
 file_only None r h = tt
 file_only (Some bytes) r h = λ image is. subst (λ (x : Result Image ImageFault). FileGives r x) (image_again bytes image is) h
+
+-- an image of either version has a text in version 2
+pub newer : (version : ℕ) (image : Image) → IsImage version image → IsImage 2 image
+newer version image is = record {
+  shape = is.shape;
+  cores = omega (arith, is.cores, few_cores version);
+  starts = is.starts;
+  aligned = is.aligned;
+  few = is.few;
+  segments = is.segments;
+}
+
+widened_valid : (read : List ℕ) (parsed : Result Image ParseError) → IfOk parsed (λ image. IsImageText read image) → IfOk (widened parsed) (IsImage 2)
+widened_valid read (Ok image) found = newer found.version image found.is_image
+widened_valid read (Err errors.Memory) found = tt
+widened_valid read (Err (errors.Fault fault)) found = tt
+
+pub file_valid : (read : List ℕ) (parsed : Result Image ParseError) (r : Result Image ImageError) → IfOk parsed (λ image. IsImageText read image) → r ≡ widened parsed → IfOk r (IsImage 2)
+file_valid read parsed r found e = subst (λ (x : Result Image ImageError). IfOk x (IsImage 2)) (sym e) (widened_valid read parsed found)

@@ -2,6 +2,7 @@
 
 ghost use Rattle.std.specs.Prelude.{◌≡◌};
 ghost use Rattle.image_read.specs.declared.fault.ParseError.TheVariants as errors;
+ghost use Rattle.image_read.specs.declared.fault.ImageError.TheVariants as file_errors;
 
 use sm_ports::Failed;
 use std::alloc::AllocError;
@@ -74,4 +75,12 @@ pub enum ImageError {
     Read(Failed),
     /// There was no memory for the bytes, the starts or the segments.
     Memory,
+}
+
+impl From<AllocError> for ImageError {
+    ghost from_gives = { λ _ error. error ≡ file_errors.Memory };
+
+    fn from(_error: AllocError) -> ImageError {
+        ImageError::Memory
+    }
 }

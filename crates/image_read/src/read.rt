@@ -3,6 +3,7 @@
 ghost use Rattle.std.specs.Prelude.{◌≡◌, ◌≤◌, ℕ, List, length, Ok, Err, IfOk};
 ghost use Rattle.mon_types.specs.declared.image.Image.{Image};
 ghost use Rattle.sm_ports.specs.Causes.{Rose};
+ghost use Rattle.image_read.specs.Image.{IsImage};
 ghost use Rattle.image_read.specs.Grammar.{IsImageText};
 ghost use Rattle.image_read.specs.Reading.{limit, all_of, image_of};
 ghost use Rattle.image_read.specs.Answers.{Gives, FileFound, FileOnly, FileExact, widened};
@@ -26,6 +27,8 @@ pub fn read_image<D: Depot>(alloc: Global, depot: &mut D, name: &str) -> Result<
     ensures found { FileFound (D.contents depot.old name.now) result }
     ensures only { FileOnly (D.contents depot.old name.now) result }
     ensures exact { FileExact (D.contents depot.old name.now) result }
+    // What was read can be written in version 2.
+    ensures valid { IfOk result (IsImage 2) }
     ensures read { (failed : Failed) → result ≡ Err (ImageError.Read failed) → Rose (D.faults depot.old name.now) (D.faults depot.new name.now) }
     ensures contents { D.contents depot.new ≡ D.contents depot.old }
     ensures later { (other : List ℕ) → D.faults depot.old other ≤ D.faults depot.new other }

@@ -1,4 +1,4 @@
-use Rattle.image_read.proofs.ImageFiles.{file_exact, file_found, file_only}
+use Rattle.image_read.proofs.ImageFiles.{file_exact, file_found, file_only, file_valid}
 use Rattle.image_read.proofs.read.read_image.Goals as goal
 
 pub returns-in-Ok-clause-exact : goal.returns-in-Ok-clause-exact
@@ -12,3 +12,6 @@ pub returns-in-Ok-clause-only : goal.returns-in-Ok-clause-only
 returns-in-Ok-clause-only g c =
     file_only (g.D.Depot.contents c.args.depot.now c.args.name.now) c.widen.result
     (file_exact (g.D.Depot.contents c.args.depot.now c.args.name.now) c.in-Ok.bytes.items c.parse_image.result c.widen.result c.in-Ok.ensures.bytes (rw (← c.deref.ensures.value) c.parse_image.ensures.exact) c.widen.ensures)
+
+pub returns-in-Ok-clause-valid : goal.returns-in-Ok-clause-valid
+returns-in-Ok-clause-valid g c = file_valid c.deref.result.now c.parse_image.result c.widen.result c.parse_image.ensures.found c.widen.ensures
