@@ -1,0 +1,3 @@
+pub mod Satp
+pub mod Told
+pub mod Places
