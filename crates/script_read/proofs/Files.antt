@@ -11,13 +11,13 @@ use Rattle.script_read.specs.declared.fault.ParseError.{ParseError}
 use Rattle.script_read.specs.declared.fault.ParseError.TheVariants as errors
 use Rattle.script_read.specs.declared.fault.ScriptError.{ScriptError}
 use Rattle.script_read.specs.Grammar.{limit, IsScript}
-use Rattle.script_read.specs.Reading.{all_lines, script_of}
+use Rattle.script_read.specs.Reading.{script_of}
 use Rattle.script_read.specs.Answers.{Gives, FileGives, FileFound, FileOnly, FileExact, widened}
 use Rattle.text_in.proofs.Files.{cut_same}
 use Rattle.script_read.proofs.ScriptLaws.{script_is, script_found}
 
 long_script : (cores : Option ℕ) (bytes : List ℕ) → limit < length bytes → script_of cores bytes ≡ Err faults.TooLong
-unfolding script_of all_lines
+unfolding script_of
 long_script cores bytes lt = rw (lt-ltb limit (length bytes) lt) refl
 
 cut_script : (cores : Option ℕ) (bytes : List ℕ) → script_of cores (take (limit + 1) bytes) ≡ script_of cores bytes

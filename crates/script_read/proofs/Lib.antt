@@ -1,7 +1,8 @@
 mod Arguments
-mod Lines
 mod Cores
 mod FormLaws
 mod LineLaws
-mod ScriptLaws
+pub mod ScriptLaws
+mod Drafting
+mod Going
 mod Files

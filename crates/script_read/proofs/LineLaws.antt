@@ -1,10 +1,10 @@
 -- A line is read as what it stands for in the grammar, and as nothing else.
 use Rattle.std.proofs.Common.{◌≡◌, ℕ, suc, ◌+◌, ◌-◌, ◌^◌, ◌≤◌, ◌⊎◌, Bool, true, false, ◌&&◌, ltb, List, [], ◌∷◌, ◌++◌, length, Option, Some, None, Result, Ok, Err, refl, sym, ap, subst, ◌∙◌, arith, inl, inr}
-use Rattle.std.specs.Prelude.{codes}
+use Rattle.std.specs.Prelude.{codes, IfSome, IfOk}
 use Rattle.std.specs.List.{list_all}
 use Rattle.std.specs.Char.{is_ascii}
 use Rattle.std.specs.Str.{bytes_eq}
-use Rattle.std.specs.Option.{option_map, ok_or}
+use Rattle.std.specs.Option.{option_map}
 use Rattle.std.proofs.lemmas.Bool.{cases_Bool, and_parts, and_from, ltb-false, le-ltb}
 use Rattle.std.proofs.lemmas.Bool.Decides.{nat_tests}
 use Rattle.std.proofs.lemmas.Option.{option_and_then_some}
@@ -18,20 +18,24 @@ use Rattle.script_read.specs.declared.form.Form.{Form}
 use Rattle.script_read.specs.declared.form.Form.TheVariants as forms
 use Rattle.script_read.specs.declared.fault.LineKind.{LineKind}
 use Rattle.script_read.specs.declared.fault.LineKind.TheVariants as kinds
+use Rattle.script_read.specs.declared.fault.ScriptFault.{ScriptFault}
 use Rattle.script_read.specs.declared.fault.ScriptFault.TheVariants as faults
+use Rattle.script_read.specs.declared.said.Said.{Said}
+use Rattle.script_read.specs.declared.said.Said.TheVariants as says
 use Rattle.text_in.specs.Bytes.{is_blank}
 use Rattle.text_in.specs.Cuts.{before_comment}
 use Rattle.text_in.specs.Words.{IsFirstWord, AreWords, words_of}
 use Rattle.text_in.specs.Numbers.{IsDigit, AreDigits, IsUnsigned, with_bytes, unsigned_of}
 use Rattle.mon_types.specs.Owns.{os_word}
-use Rattle.script_read.specs.Forms.{form_name, least, most, takes_os, form_line, form_named, is_later_word}
-use Rattle.script_read.specs.Grammar.{IsNumber, is_owner_place, IsArgument, AreArguments, AreNumbers, IsCallLine, IsEcallLine, IsPcLine, IsRegLine, StandsFor, IsLine}
-use Rattle.script_read.specs.Reading.{number_of, argument_of, arguments_of, with_zeros, line_with, form_read, at_line, line_in, line_of_words, line_of}
+use Rattle.script_read.specs.Forms.{form_name, least, most, takes_os, form_said, form_named}
+use Rattle.script_read.specs.Grammar.{IsNumber, is_owner_place, IsArgument, AreArguments, AreNumbers, IsCallLine, IsEcallLine, IsPcLine, IsRegLine, IsRunLine, IsLoadLine, IsStoreLine, IsCoreLine, StandsForLine, StandsFor, IsLine}
+use Rattle.script_read.specs.Reading.{number_of, argument_of, arguments_of, with_zeros, said_with, form_read, at_line, line_in, line_of_words, line_of}
+use Rattle.script_read.specs.Drafts.{MayBeSaid}
 use Rattle.text_in.proofs.Numbers.{unsigned_read, unsigned_is, up_to_is, up_to_read}
 use Rattle.text_in.proofs.Words.{words_are, words_found}
 use Rattle.text_in.proofs.Lines.{front_is, has_comment}
 use Rattle.text_in.proofs.Cuts.{all_from}
-use Rattle.script_read.proofs.FormLaws.{HoldsForm, named_is, named_holds, has_form, ecall_line, ecall_word, tick_word, pc_word, reg_word, pc_is, pc_found, reg_is, reg_found}
+use Rattle.script_read.proofs.FormLaws.{of_one, of_two, HoldsForm, named_is, named_holds, has_form, ecall_said, ecall_word, run_word, tick_word, load_word, store_word, pc_word, reg_word, core_word, said_same, pc_is, pc_found, reg_is, reg_found, core_is, core_found}
 
 -- ---- arguments
 
@@ -114,69 +118,99 @@ arguments_found os_there form place (word ∷ words) (n ∷ ns) o h = option_and
 
 -- ---- what stands for a line is read so
 
--- the words of a form, with as many arguments as it takes, and the line that it makes of them
-form_is : (os_there : ℕ → Bool) (form : Form) (words : List (List ℕ)) (ns : List ℕ) (line : Line) → SameOwner os_there form → AreArguments os_there 0 words ns → least form ≤ length ns → length ns ≤ most form → form_line form (with_zeros 7 ns) ≡ Some line → form_read form words ≡ Ok line
+-- the words of a form, with as many arguments as it takes, and what it says with them
+form_is : (count : ℕ) (os_there : ℕ → Bool) (form : Form) (words : List (List ℕ)) (ns : List ℕ) (said : Said) → SameOwner os_there form → AreArguments os_there 0 words ns → least form ≤ length ns → length ns ≤ most form → form_said count form (with_zeros 7 ns) ≡ Ok said → form_read count form words ≡ Ok said
 unfolding form_read
-form_is os_there form words ns line o a low high l =
-    let count : length words ≡ length ns = same_length os_there 0 words ns a in
-    rw (le-ltb (length words) (least form) (omega arith), le-ltb (most form) (length words) (omega arith), arguments_are os_there form 0 words ns o a, l) refl
+form_is count os_there form words ns said o a low high s =
+    let size : length words ≡ length ns = same_length os_there 0 words ns a in
+    rw (le-ltb (length words) (least form) (omega arith), le-ltb (most form) (length words) (omega arith), arguments_are os_there form 0 words ns o a) s
 
 -- a line that begins with the word of a form
-named_line : (n : ℕ) (word : List ℕ) (form : Form) (words : List (List ℕ)) (line : Line) → form_named word ≡ Some form → is_later_word word ≡ false → form_read form words ≡ Ok line → line_of_words n (word ∷ words) ≡ Ok (Some line)
+named_line : (count n : ℕ) (word : List ℕ) (form : Form) (words : List (List ℕ)) (said : Said) → form_named word ≡ Some form → form_read count form words ≡ Ok said → line_of_words count n (word ∷ words) ≡ Ok (Some said)
 unfolding line_of_words
-named_line n word form words line w now r = rw (now, w, r) refl
+named_line count n word form words said w r = rw (w, r) refl
 
-call_line_is : (n : ℕ) (words : List (List ℕ)) (call : Call) → IsCallLine words call → line_of_words n words ≡ Ok (Some (lines.Make call))
-call_line_is n words call h =
+call_line_is : (count n : ℕ) (words : List (List ℕ)) (call : Call) → IsCallLine words call → line_of_words count n words ≡ Ok (Some (says.Line (lines.Make call)))
+call_line_is count n words call h =
     let f = has_form call h.named in
-    ap (line_of_words n) h.words_are
-    ∙ named_line n (call_name call) f.form h.args (lines.Make call) f.named f.now
-    (form_is (is_owner_place call) f.form h.args (call_args call) (lines.Make call) f.owner h.are_arguments (omega (arith, f.at_least)) (omega (arith, f.at_most)) f.line_is)
+    ap (line_of_words count n) h.words_are
+    ∙ named_line count n (call_name call) f.form h.args (says.Line (lines.Make call)) f.named
+    (form_is count (is_owner_place call) f.form h.args (call_args call) (says.Line (lines.Make call)) f.owner h.are_arguments (omega (arith, f.at_least)) (omega (arith, f.at_most)) (f.said_is count))
 
--- no `os` may stand among the arguments of ecall, pc and reg
+-- no `os` may stand among the arguments of a line that is no name of a call
 abbrev nowhere : ℕ → Bool
 nowhere place = false
 
-ecall_line_is : (n : ℕ) (words : List (List ℕ)) (call : Call) → IsEcallLine words call → line_of_words n words ≡ Ok (Some (lines.Make call))
-ecall_line_is n words call h =
-    let made : form_line forms.Ecall (with_zeros 7 (h.number ∷ h.args)) ≡ Some (lines.Make call) = ecall_line h.number h.args ∙ ap (λ (x : Call). Some (lines.Make x)) (sym h.call_is) in
-    ap (line_of_words n) h.words_are
-    ∙ named_line n (codes "ecall") forms.Ecall h.numbers (lines.Make call) ecall_word.named ecall_word.now
-    (form_is nowhere forms.Ecall h.numbers (h.number ∷ h.args) (lines.Make call) (λ place. refl) h.are_numbers (omega arith) (omega (arith, h.few)) made)
+ecall_line_is : (count n : ℕ) (words : List (List ℕ)) (call : Call) → IsEcallLine words call → line_of_words count n words ≡ Ok (Some (says.Line (lines.Make call)))
+ecall_line_is count n words call h =
+    let made : form_said count forms.Ecall (with_zeros 7 (h.number ∷ h.args)) ≡ Ok (says.Line (lines.Make call)) = ecall_said count h.number h.args ∙ ap (λ (x : Call). Ok (says.Line (lines.Make x))) (sym h.call_is) in
+    ap (line_of_words count n) h.words_are
+    ∙ named_line count n (codes "ecall") forms.Ecall h.numbers (says.Line (lines.Make call)) ecall_word.named
+    (form_is count nowhere forms.Ecall h.numbers (h.number ∷ h.args) (says.Line (lines.Make call)) (λ place. refl) h.are_numbers (omega arith) (omega (arith, h.few)) made)
 
-tick_line_is : (n : ℕ) (words : List (List ℕ)) → words ≡ codes "tick" ∷ [] → line_of_words n words ≡ Ok (Some lines.Tick)
-tick_line_is n words h =
-    ap (line_of_words n) h ∙ named_line n (codes "tick") forms.Tick [] lines.Tick tick_word.named tick_word.now (form_is nowhere forms.Tick [] [] lines.Tick (λ place. refl) tt (omega arith) (omega arith) refl)
+tick_line_is : (count n : ℕ) (words : List (List ℕ)) → words ≡ codes "tick" ∷ [] → line_of_words count n words ≡ Ok (Some (says.Line lines.Tick))
+tick_line_is count n words h =
+    ap (line_of_words count n) h
+    ∙ named_line count n (codes "tick") forms.Tick [] (says.Line lines.Tick) tick_word.named (form_is count nowhere forms.Tick [] [] (says.Line lines.Tick) (λ place. refl) tt (omega arith) (omega arith) refl)
 
-pc_line_is : (n : ℕ) (words : List (List ℕ)) (pc : ℕ) → IsPcLine words pc → line_of_words n words ≡ Ok (Some (lines.SetPc pc))
-pc_line_is n words pc h =
-    ap (line_of_words n) h.words_are
-    ∙ named_line n (codes "pc") forms.SetPc h.numbers (lines.SetPc pc) pc_word.named pc_word.now
-    (form_is nowhere forms.SetPc h.numbers (pc ∷ []) (lines.SetPc pc) (λ place. refl) h.are_numbers (omega arith) (omega arith) (pc_is pc h.whole))
+run_line_is : (count n : ℕ) (words : List (List ℕ)) (turns : ℕ) → IsRunLine words turns → line_of_words count n words ≡ Ok (Some (says.Run turns))
+run_line_is count n words turns h =
+    ap (line_of_words count n) h.words_are
+    ∙ named_line count n (codes "run") forms.Run h.numbers (says.Run turns) run_word.named
+    (form_is count nowhere forms.Run h.numbers (turns ∷ []) (says.Run turns) (λ place. refl) h.are_numbers (omega arith) (omega arith) refl)
 
-reg_line_is : (n : ℕ) (words : List (List ℕ)) (x value : ℕ) → IsRegLine words x value → line_of_words n words ≡ Ok (Some (lines.SetReg x value))
-reg_line_is n words x value h =
-    ap (line_of_words n) h.words_are
-    ∙ named_line n (codes "reg") forms.SetReg h.numbers (lines.SetReg x value) reg_word.named reg_word.now
-    (form_is nowhere forms.SetReg h.numbers (x ∷ value ∷ []) (lines.SetReg x value) (λ place. refl) h.are_numbers (omega arith) (omega arith) (reg_is x value h.from h.to))
+load_line_is : (count n : ℕ) (words : List (List ℕ)) (va : ℕ) → IsLoadLine words va → line_of_words count n words ≡ Ok (Some (says.Line (lines.LoadWord va)))
+load_line_is count n words va h =
+    ap (line_of_words count n) h.words_are
+    ∙ named_line count n (codes "load") forms.LoadWord h.numbers (says.Line (lines.LoadWord va)) load_word.named
+    (form_is count nowhere forms.LoadWord h.numbers (va ∷ []) (says.Line (lines.LoadWord va)) (λ place. refl) h.are_numbers (omega arith) (omega arith) refl)
 
-no_words_are : (n : ℕ) → line_of_words n [] ≡ Ok None
+store_line_is : (count n : ℕ) (words : List (List ℕ)) (va value : ℕ) → IsStoreLine words va value → line_of_words count n words ≡ Ok (Some (says.Line (lines.StoreWord va value)))
+store_line_is count n words va value h =
+    ap (line_of_words count n) h.words_are
+    ∙ named_line count n (codes "store") forms.StoreWord h.numbers (says.Line (lines.StoreWord va value)) store_word.named
+    (form_is count nowhere forms.StoreWord h.numbers (va ∷ value ∷ []) (says.Line (lines.StoreWord va value)) (λ place. refl) h.are_numbers (omega arith) (omega arith) refl)
+
+pc_line_is : (count n : ℕ) (words : List (List ℕ)) (pc : ℕ) → IsPcLine words pc → line_of_words count n words ≡ Ok (Some (says.Line (lines.SetPc pc)))
+pc_line_is count n words pc h =
+    ap (line_of_words count n) h.words_are
+    ∙ named_line count n (codes "pc") forms.SetPc h.numbers (says.Line (lines.SetPc pc)) pc_word.named
+    (form_is count nowhere forms.SetPc h.numbers (pc ∷ []) (says.Line (lines.SetPc pc)) (λ place. refl) h.are_numbers (omega arith) (omega arith) (pc_is pc h.whole))
+
+reg_line_is : (count n : ℕ) (words : List (List ℕ)) (x value : ℕ) → IsRegLine words x value → line_of_words count n words ≡ Ok (Some (says.Line (lines.SetReg x value)))
+reg_line_is count n words x value h =
+    ap (line_of_words count n) h.words_are
+    ∙ named_line count n (codes "reg") forms.SetReg h.numbers (says.Line (lines.SetReg x value)) reg_word.named
+    (form_is count nowhere forms.SetReg h.numbers (x ∷ value ∷ []) (says.Line (lines.SetReg x value)) (λ place. refl) h.are_numbers (omega arith) (omega arith) (reg_is x value h.from h.to))
+
+core_line_is : (count n : ℕ) (words : List (List ℕ)) (core : ℕ) → IsCoreLine count words core → line_of_words count n words ≡ Ok (Some (says.Core core))
+core_line_is count n words core h =
+    ap (line_of_words count n) h.words_are
+    ∙ named_line count n (codes "core") forms.Core h.numbers (says.Core core) core_word.named
+    (form_is count nowhere forms.Core h.numbers (core ∷ []) (says.Core core) (λ place. refl) h.are_numbers (omega arith) (omega arith) (core_is count core h.below))
+
+no_words_are : (count n : ℕ) → line_of_words count n [] ≡ Ok None
 unfolding line_of_words
-no_words_are n = refl
+no_words_are count n = refl
 
-made_line_is : (n : ℕ) (words : List (List ℕ)) (call : Call) → IsCallLine words call ⊎ IsEcallLine words call → line_of_words n words ≡ Ok (Some (lines.Make call))
-made_line_is n words call (inl h) = call_line_is n words call h
-made_line_is n words call (inr h) = ecall_line_is n words call h
+made_line_is : (count n : ℕ) (words : List (List ℕ)) (call : Call) → IsCallLine words call ⊎ IsEcallLine words call → line_of_words count n words ≡ Ok (Some (says.Line (lines.Make call)))
+made_line_is count n words call (inl h) = call_line_is count n words call h
+made_line_is count n words call (inr h) = ecall_line_is count n words call h
 
-words_stand : (n : ℕ) (words : List (List ℕ)) (line : Option Line) → StandsFor words line → line_of_words n words ≡ Ok line
-words_stand n words None h = ap (line_of_words n) h ∙ no_words_are n
-words_stand n words (Some (lines.Make call)) h = made_line_is n words call h
-words_stand n words (Some (lines.Run k)) h = absurd h
-words_stand n words (Some lines.Tick) h = tick_line_is n words h
-words_stand n words (Some (lines.LoadWord va)) h = absurd h
-words_stand n words (Some (lines.StoreWord va value)) h = absurd h
-words_stand n words (Some (lines.SetPc pc)) h = pc_line_is n words pc h
-words_stand n words (Some (lines.SetReg x value)) h = reg_line_is n words x value h
+own_line_stands : (count n : ℕ) (words : List (List ℕ)) (line : Line) → StandsForLine words line → line_of_words count n words ≡ Ok (Some (says.Line line))
+own_line_stands count n words (lines.Make call) h = made_line_is count n words call h
+own_line_stands count n words (lines.Run turns) h = absurd h
+own_line_stands count n words lines.Tick h = tick_line_is count n words h
+own_line_stands count n words (lines.LoadWord va) h = load_line_is count n words va h
+own_line_stands count n words (lines.StoreWord va value) h = store_line_is count n words va value h
+own_line_stands count n words (lines.SetPc pc) h = pc_line_is count n words pc h
+own_line_stands count n words (lines.SetReg x value) h = reg_line_is count n words x value h
+
+words_stand : (count n : ℕ) (words : List (List ℕ)) (said : Option Said) → StandsFor count words said → line_of_words count n words ≡ Ok said
+words_stand count n words None h = ap (line_of_words count n) h ∙ no_words_are count n
+words_stand count n words (Some (says.Line line)) h = own_line_stands count n words line h
+words_stand count n words (Some (says.Run turns)) h = run_line_is count n words turns h
+words_stand count n words (Some (says.Core core)) h = core_line_is count n words core h
 
 -- ---- what the words of a line are read as
 
@@ -186,48 +220,41 @@ err_ok e x P h = absurd cc
 ok_same : {X E : Type 0} (x y : X) → ◌≡◌ {A = Result X E} (Ok x) (Ok y) → x ≡ y
 ok_same x y h = cc
 
-some_same : {X : Type 0} (x y : X) → ◌≡◌ {A = Option X} (Some x) (Some y) → x ≡ y
-some_same x y h = cc
-
 -- the arguments of a line that was read
-record HasArguments (form : Form) (args : List (List ℕ)) (line : Line) : Type 0 where
+record HasArguments (count : ℕ) (form : Form) (args : List (List ℕ)) (said : Said) : Type 0 where
   ns : List ℕ
   low : least form ≤ length args
   high : length args ≤ most form
   read : arguments_of form 0 args ≡ Some ns
-  is : form_line form (with_zeros 7 ns) ≡ Some line
+  is : form_said count form (with_zeros 7 ns) ≡ Ok said
 
-or_found : (o : Option Line) (line : Line) → ok_or o kinds.BadNumber ≡ Ok line → o ≡ Some line
-or_found None line h = err_ok kinds.BadNumber line (None ≡ Some line) h
-or_found (Some made) line h = ap (λ (x : Line). Some x) (ok_same made line h)
+with_found : (count : ℕ) (form : Form) (args : List (List ℕ)) (said : Said) (read : Option (List ℕ)) → least form ≤ length args → length args ≤ most form → arguments_of form 0 args ≡ read → said_with count form read ≡ Ok said → HasArguments count form args said
+with_found count form args said None low high r h = err_ok kinds.BadNumber said (HasArguments count form args said) h
+with_found count form args said (Some ns) low high r h = record { ns = ns; low = low; high = high; read = r; is = h }
 
-with_found : (form : Form) (args : List (List ℕ)) (line : Line) → least form ≤ length args → length args ≤ most form → line_with form (arguments_of form 0 args) ≡ Some line → HasArguments form args line
-with_found form args line low high h =
-    option_and_then_some (λ ns. form_line form (with_zeros 7 ns)) (arguments_of form 0 args) line h (λ ns r l. record { ns = ns; low = low; high = high; read = r; is = l })
-
-form_read_found : (form : Form) (args : List (List ℕ)) (line : Line) → form_read form args ≡ Ok line → HasArguments form args line
+form_read_found : (count : ℕ) (form : Form) (args : List (List ℕ)) (said : Said) → form_read count form args ≡ Ok said → HasArguments count form args said
 unfolding form_read
-form_read_found form args line h =
+form_read_found count form args said h =
     elim (cases_Bool (ltb (length args) (least form))) [
-      | inl t ↦ err_ok kinds.MissingWord line (HasArguments form args line) (rw t at h)
+      | inl t ↦ err_ok kinds.MissingWord said (HasArguments count form args said) (rw t at h)
       | inr f ↦ elim (cases_Bool (ltb (most form) (length args))) [
-        | inl t ↦ err_ok kinds.ExtraWord line (HasArguments form args line) (rw (f, t) at h)
-        | inr g ↦ with_found form args line (ltb-false (length args) (least form) f) (ltb-false (most form) (length args) g) (or_found (line_with form (arguments_of form 0 args)) line (rw (f, g) at h))
+        | inl t ↦ err_ok kinds.ExtraWord said (HasArguments count form args said) (rw (f, t) at h)
+        | inr g ↦ with_found count form args said (arguments_of form 0 args) (ltb-false (length args) (least form) f) (ltb-false (most form) (length args) g) refl (rw (f, g) at h)
       ]
     ]
 
--- the line of this first word and these arguments
-abbrev Found : List ℕ → List (List ℕ) → Line → Type 0
-Found word args line = StandsFor (word ∷ args) (Some line)
+-- what the line of this first word and these arguments says
+abbrev Found : ℕ → List ℕ → List (List ℕ) → Said → Type 0
+Found count word args said = StandsFor count (word ∷ args) (Some said)
 
-named_found : (number arity : ℕ) (word : List ℕ) (args : List (List ℕ)) (line : Line) → word ≡ form_name (forms.Named number arity) → HoldsForm (forms.Named number arity) → HasArguments (forms.Named number arity) args line → Found word args line
-named_found number arity word args line w holds a =
+named_found : (count number arity : ℕ) (word : List ℕ) (args : List (List ℕ)) (said : Said) → word ≡ form_name (forms.Named number arity) → HoldsForm (forms.Named number arity) → HasArguments count (forms.Named number arity) args said → Found count word args said
+named_found count number arity word args said w holds a =
     let found : AreArguments (takes_os (forms.Named number arity)) 0 args a.ns = arguments_found (takes_os (forms.Named number arity)) (forms.Named number arity) 0 args a.ns (λ place. refl) a.read in
     let same : length args ≡ length a.ns = same_length (takes_os (forms.Named number arity)) 0 args a.ns found in
-    let count : length a.ns ≡ arity = omega (arith, a.low, a.high) in
-    let m = holds a.ns count in
+    let size : length a.ns ≡ arity = omega (arith, a.low, a.high) in
+    let m = holds a.ns size in
     let there : AreArguments (is_owner_place m.call) 0 args a.ns = arguments_found (is_owner_place m.call) (forms.Named number arity) 0 args a.ns m.owner a.read in
-    subst (λ (x : Line). Found word args x) (some_same (lines.Make m.call) line (sym m.line_is ∙ a.is)) (inl (record {
+    subst (λ (x : Said). Found count word args x) (said_same (says.Line (lines.Make m.call)) said (sym (m.said_is count) ∙ a.is)) (inl (record {
       named = m.named;
       args = args;
       words_are = ap (λ (x : List ℕ). x ∷ args) (w ∙ sym m.name_is);
@@ -235,14 +262,14 @@ named_found number arity word args line w holds a =
     }))
 
 -- the numbers of a line that was read
-numbers_found : (form : Form) (args : List (List ℕ)) (line : Line) (a : HasArguments form args line) → SameOwner nowhere form → AreNumbers args a.ns
-numbers_found form args line a o = arguments_found nowhere form 0 args a.ns o a.read
+numbers_found : (count : ℕ) (form : Form) (args : List (List ℕ)) (said : Said) (a : HasArguments count form args said) → SameOwner nowhere form → AreNumbers args a.ns
+numbers_found count form args said a o = arguments_found nowhere form 0 args a.ns o a.read
 
-ecall_by : (word : List ℕ) (args : List (List ℕ)) (line : Line) (ns : List ℕ) → word ≡ codes "ecall" → 1 ≤ length args → length args ≤ 7 → AreNumbers args ns → form_line forms.Ecall (with_zeros 7 ns) ≡ Some line → Found word args line
-ecall_by word args line [] w low high found is = let same : length args ≡ 0 = same_length nowhere 0 args [] found in absurd (omega arith)
-ecall_by word args line (n ∷ ns) w low high found is =
+ecall_by : (count : ℕ) (word : List ℕ) (args : List (List ℕ)) (said : Said) (ns : List ℕ) → word ≡ codes "ecall" → 1 ≤ length args → length args ≤ 7 → AreNumbers args ns → form_said count forms.Ecall (with_zeros 7 ns) ≡ Ok said → Found count word args said
+ecall_by count word args said [] w low high found is = let same : length args ≡ 0 = same_length nowhere 0 args [] found in absurd (omega arith)
+ecall_by count word args said (n ∷ ns) w low high found is =
     let same : length args ≡ length ns + 1 = omega (arith, same_length nowhere 0 args (n ∷ ns) found) in
-    subst (λ (x : Line). Found word args x) (some_same (lines.Make (call_of_registers n (with_zeros 6 ns))) line (sym (ecall_line n ns) ∙ is)) (inr (record {
+    subst (λ (x : Said). Found count word args x) (said_same (says.Line (lines.Make (call_of_registers n (with_zeros 6 ns)))) said (sym (ecall_said count n ns) ∙ is)) (inr (record {
       number = n;
       args = ns;
       numbers = args;
@@ -252,56 +279,74 @@ ecall_by word args line (n ∷ ns) w low high found is =
       call_is = refl;
     }))
 
-tick_by : (word : List ℕ) (args : List (List ℕ)) (line : Line) → word ≡ codes "tick" → length args ≤ 0 → Some lines.Tick ≡ Some line → Found word args line
-tick_by word [] line w high is = subst (λ (x : Line). Found word [] x) (some_same lines.Tick line is) (ap (λ (x : List ℕ). x ∷ []) w)
-tick_by word (arg ∷ args) line w high is = absurd (omega arith)
+tick_by : (count : ℕ) (word : List ℕ) (args : List (List ℕ)) (said : Said) → word ≡ codes "tick" → length args ≤ 0 → form_said count forms.Tick [] ≡ Ok said → Found count word args said
+tick_by count word [] said w high is = subst (λ (x : Said). Found count word [] x) (said_same (says.Line lines.Tick) said is) (ap (λ (x : List ℕ). x ∷ []) w)
+tick_by count word (arg ∷ args) said w high is = absurd (omega arith)
 
-pc_by : (word : List ℕ) (args : List (List ℕ)) (line : Line) (ns : List ℕ) → word ≡ codes "pc" → length ns ≡ 1 → AreNumbers args ns → form_line forms.SetPc (with_zeros 7 ns) ≡ Some line → Found word args line
-pc_by word args line [] w count found is = absurd (omega arith)
-pc_by word args line (pc ∷ n ∷ ns) w count found is = absurd (omega arith)
-pc_by word args line (pc ∷ []) w count found is =
-    let p = pc_found pc line is in
-    subst (λ (x : Line). Found word args x) p.1 (record { numbers = args; words_are = ap (λ (x : List ℕ). x ∷ args) w; are_numbers = found; whole = p.0 })
+-- what a line of the form says with these numbers, it stands for
+abbrev Told : ℕ → Form → List ℕ → List (List ℕ) → Said → List ℕ → Type 0
+Told count form word args said ns = AreNumbers args ns → form_said count form (with_zeros 7 ns) ≡ Ok said → Found count word args said
 
-reg_by : (word : List ℕ) (args : List (List ℕ)) (line : Line) (ns : List ℕ) → word ≡ codes "reg" → length ns ≡ 2 → AreNumbers args ns → form_line forms.SetReg (with_zeros 7 ns) ≡ Some line → Found word args line
-reg_by word args line [] w count found is = absurd (omega arith)
-reg_by word args line (x ∷ []) w count found is = absurd (omega arith)
-reg_by word args line (x ∷ value ∷ n ∷ ns) w count found is = absurd (omega arith)
-reg_by word args line (x ∷ value ∷ []) w count found is =
-    let p = reg_found x value line is in
-    subst (λ (l : Line). Found word args l) p.2 (record { numbers = args; words_are = ap (λ (l : List ℕ). l ∷ args) w; are_numbers = found; from = p.0; to = p.1 })
+run_by : (count : ℕ) (word : List ℕ) (args : List (List ℕ)) (said : Said) → word ≡ codes "run" → (ns : List ℕ) → length ns ≡ 1 → Told count forms.Run word args said ns
+run_by count word args said w = of_one (Told count forms.Run word args said) (λ turns found is.
+    subst (λ (x : Said). Found count word args x) (said_same (says.Run turns) said is) (record { numbers = args; words_are = ap (λ (x : List ℕ). x ∷ args) w; are_numbers = found }))
 
-form_found : (word : List ℕ) (args : List (List ℕ)) (line : Line) (form : Form) → word ≡ form_name form → HoldsForm form → HasArguments form args line → Found word args line
+load_by : (count : ℕ) (word : List ℕ) (args : List (List ℕ)) (said : Said) → word ≡ codes "load" → (ns : List ℕ) → length ns ≡ 1 → Told count forms.LoadWord word args said ns
+load_by count word args said w = of_one (Told count forms.LoadWord word args said) (λ va found is.
+    subst (λ (x : Said). Found count word args x) (said_same (says.Line (lines.LoadWord va)) said is) (record { numbers = args; words_are = ap (λ (x : List ℕ). x ∷ args) w; are_numbers = found }))
+
+store_by : (count : ℕ) (word : List ℕ) (args : List (List ℕ)) (said : Said) → word ≡ codes "store" → (ns : List ℕ) → length ns ≡ 2 → Told count forms.StoreWord word args said ns
+store_by count word args said w = of_two (Told count forms.StoreWord word args said) (λ va value found is.
+    subst (λ (x : Said). Found count word args x) (said_same (says.Line (lines.StoreWord va value)) said is) (record { numbers = args; words_are = ap (λ (x : List ℕ). x ∷ args) w; are_numbers = found }))
+
+pc_by : (count : ℕ) (word : List ℕ) (args : List (List ℕ)) (said : Said) → word ≡ codes "pc" → (ns : List ℕ) → length ns ≡ 1 → Told count forms.SetPc word args said ns
+pc_by count word args said w = of_one (Told count forms.SetPc word args said) (λ pc found is.
+    let p = pc_found pc said is in
+    subst (λ (x : Said). Found count word args x) p.1 (record { numbers = args; words_are = ap (λ (x : List ℕ). x ∷ args) w; are_numbers = found; whole = p.0 }))
+
+reg_by : (count : ℕ) (word : List ℕ) (args : List (List ℕ)) (said : Said) → word ≡ codes "reg" → (ns : List ℕ) → length ns ≡ 2 → Told count forms.SetReg word args said ns
+reg_by count word args said w = of_two (Told count forms.SetReg word args said) (λ x value found is.
+    let p = reg_found x value said is in
+    subst (λ (s : Said). Found count word args s) p.2 (record { numbers = args; words_are = ap (λ (s : List ℕ). s ∷ args) w; are_numbers = found; from = p.0; to = p.1 }))
+
+core_by : (count : ℕ) (word : List ℕ) (args : List (List ℕ)) (said : Said) → word ≡ codes "core" → (ns : List ℕ) → length ns ≡ 1 → Told count forms.Core word args said ns
+core_by count word args said w = of_one (Told count forms.Core word args said) (λ core found is.
+    let p = core_found count core said is in
+    subst (λ (x : Said). Found count word args x) p.1 (record { numbers = args; words_are = ap (λ (x : List ℕ). x ∷ args) w; are_numbers = found; below = p.0 }))
+
+-- a line that is no name of a call, with a number of arguments that is fixed
+fixed_by : (count size : ℕ) (word : List ℕ) (args : List (List ℕ)) (said : Said) (form : Form) → SameOwner nowhere form → least form ≡ size → most form ≡ size → HasArguments count form args said
+    → ((ns : List ℕ) → length ns ≡ size → Told count form word args said ns) → Found count word args said
+fixed_by count size word args said form o low high a by =
+    let found = numbers_found count form args said a o in
+    let same : length args ≡ length a.ns = same_length nowhere 0 args a.ns found in
+    by a.ns (omega (arith, a.low, a.high)) found a.is
+
+form_found : (count : ℕ) (word : List ℕ) (args : List (List ℕ)) (said : Said) (form : Form) → word ≡ form_name form → HoldsForm form → HasArguments count form args said → Found count word args said
 unfolding form_name
-form_found word args line (forms.Named number arity) w holds a = named_found number arity word args line w holds a
-form_found word args line forms.Ecall w holds a = ecall_by word args line a.ns w a.low a.high (numbers_found forms.Ecall args line a (λ place. refl)) a.is
-form_found word args line forms.Tick w holds a = tick_by word args line w a.high a.is
-form_found word args line forms.SetPc w holds a =
-    let found = numbers_found forms.SetPc args line a (λ place. refl) in
-    let same : length args ≡ length a.ns = same_length nowhere 0 args a.ns found in
-    pc_by word args line a.ns w (omega (arith, a.low, a.high)) found a.is
-form_found word args line forms.SetReg w holds a =
-    let found = numbers_found forms.SetReg args line a (λ place. refl) in
-    let same : length args ≡ length a.ns = same_length nowhere 0 args a.ns found in
-    reg_by word args line a.ns w (omega (arith, a.low, a.high)) found a.is
+form_found count word args said (forms.Named number arity) w holds a = named_found count number arity word args said w holds a
+form_found count word args said forms.Ecall w holds a = ecall_by count word args said a.ns w a.low a.high (numbers_found count forms.Ecall args said a (λ place. refl)) a.is
+form_found count word args said forms.Run w holds a = fixed_by count 1 word args said forms.Run (λ place. refl) refl refl a (run_by count word args said w)
+form_found count word args said forms.Tick w holds a = tick_by count word args said w a.high a.is
+form_found count word args said forms.LoadWord w holds a = fixed_by count 1 word args said forms.LoadWord (λ place. refl) refl refl a (load_by count word args said w)
+form_found count word args said forms.StoreWord w holds a = fixed_by count 2 word args said forms.StoreWord (λ place. refl) refl refl a (store_by count word args said w)
+form_found count word args said forms.SetPc w holds a = fixed_by count 1 word args said forms.SetPc (λ place. refl) refl refl a (pc_by count word args said w)
+form_found count word args said forms.SetReg w holds a = fixed_by count 2 word args said forms.SetReg (λ place. refl) refl refl a (reg_by count word args said w)
+form_found count word args said forms.Core w holds a = fixed_by count 1 word args said forms.Core (λ place. refl) refl refl a (core_by count word args said w)
 
-at_line_found : (n : ℕ) (word : List ℕ) (args : List (List ℕ)) (form : Form) (line : Option Line) (r : Result Line LineKind) → form_named word ≡ Some form → form_read form args ≡ r → at_line n r ≡ Ok line → StandsFor (word ∷ args) line
-at_line_found n word args form line (Ok made) w r h =
-    subst (λ (x : Option Line). StandsFor (word ∷ args) x) (ok_same (Some made) line h) (form_found word args made form (named_is word form w) (named_holds word form w) (form_read_found form args made r))
-at_line_found n word args form line (Err kind) w r h = err_ok (faults.BadLine n kind) line (StandsFor (word ∷ args) line) h
+at_line_found : (count n : ℕ) (word : List ℕ) (args : List (List ℕ)) (form : Form) (said : Option Said) (r : Result Said LineKind) → form_named word ≡ Some form → form_read count form args ≡ r → at_line n r ≡ Ok said → StandsFor count (word ∷ args) said
+at_line_found count n word args form said (Ok first) w r h =
+    subst (λ (x : Option Said). StandsFor count (word ∷ args) x) (ok_same (Some first) said h) (form_found count word args first form (named_is word form w) (named_holds word form w) (form_read_found count form args first r))
+at_line_found count n word args form said (Err kind) w r h = err_ok (faults.BadLine n kind) said (StandsFor count (word ∷ args) said) h
 
-line_in_found : (n : ℕ) (word : List ℕ) (args : List (List ℕ)) (o : Option Form) (line : Option Line) → form_named word ≡ o → line_in n o args ≡ Ok line → StandsFor (word ∷ args) line
-line_in_found n word args None line w h = err_ok (faults.BadLine n kinds.UnknownWord) line (StandsFor (word ∷ args) line) h
-line_in_found n word args (Some form) line w h = at_line_found n word args form line (form_read form args) w refl h
+line_in_found : (count n : ℕ) (word : List ℕ) (args : List (List ℕ)) (o : Option Form) (said : Option Said) → form_named word ≡ o → line_in count n o args ≡ Ok said → StandsFor count (word ∷ args) said
+line_in_found count n word args None said w h = err_ok (faults.BadLine n kinds.UnknownWord) said (StandsFor count (word ∷ args) said) h
+line_in_found count n word args (Some form) said w h = at_line_found count n word args form said (form_read count form args) w refl h
 
-words_line_found : (n : ℕ) (words : List (List ℕ)) (line : Option Line) → line_of_words n words ≡ Ok line → StandsFor words line
+words_line_found : (count n : ℕ) (words : List (List ℕ)) (said : Option Said) → line_of_words count n words ≡ Ok said → StandsFor count words said
 unfolding line_of_words
-words_line_found n [] line h = subst (λ (x : Option Line). StandsFor [] x) (ok_same None line h) refl
-words_line_found n (word ∷ args) line h =
-    elim (cases_Bool (is_later_word word)) [
-      | inl t ↦ err_ok (faults.NotBuilt n) line (StandsFor (word ∷ args) line) (rw t at h)
-      | inr f ↦ line_in_found n word args (form_named word) line refl (rw f at h)
-    ]
+words_line_found count n [] said h = subst (λ (x : Option Said). StandsFor count [] x) (ok_same None said h) refl
+words_line_found count n (word ∷ args) said h = line_in_found count n word args (form_named word) said refl h
 
 -- ---- bytes that are not ASCII
 
@@ -341,15 +386,20 @@ made_ascii : (words : List (List ℕ)) (call : Call) → IsCallLine words call �
 made_ascii words call (inl h) = pair_ascii (is_owner_place call) words (call_name call) h.args (call_args call) h.words_are (has_form call h.named).ascii h.are_arguments
 made_ascii words call (inr h) = pair_ascii nowhere words (codes "ecall") h.numbers (h.number ∷ h.args) h.words_are refl h.are_numbers
 
-words_ascii : (words : List (List ℕ)) (line : Option Line) → StandsFor words line → AreAscii words
-words_ascii words None h = ap (list_all (list_all is_ascii)) h
-words_ascii words (Some (lines.Make call)) h = made_ascii words call h
-words_ascii words (Some (lines.Run k)) h = absurd h
-words_ascii words (Some lines.Tick) h = ap (list_all (list_all is_ascii)) h
-words_ascii words (Some (lines.LoadWord va)) h = absurd h
-words_ascii words (Some (lines.StoreWord va value)) h = absurd h
-words_ascii words (Some (lines.SetPc pc)) h = pair_ascii nowhere words (codes "pc") h.numbers (pc ∷ []) h.words_are refl h.are_numbers
-words_ascii words (Some (lines.SetReg x value)) h = pair_ascii nowhere words (codes "reg") h.numbers (x ∷ value ∷ []) h.words_are refl h.are_numbers
+own_line_ascii : (words : List (List ℕ)) (line : Line) → StandsForLine words line → AreAscii words
+own_line_ascii words (lines.Make call) h = made_ascii words call h
+own_line_ascii words (lines.Run turns) h = absurd h
+own_line_ascii words lines.Tick h = ap (list_all (list_all is_ascii)) h
+own_line_ascii words (lines.LoadWord va) h = pair_ascii nowhere words (codes "load") h.numbers (va ∷ []) h.words_are refl h.are_numbers
+own_line_ascii words (lines.StoreWord va value) h = pair_ascii nowhere words (codes "store") h.numbers (va ∷ value ∷ []) h.words_are refl h.are_numbers
+own_line_ascii words (lines.SetPc pc) h = pair_ascii nowhere words (codes "pc") h.numbers (pc ∷ []) h.words_are refl h.are_numbers
+own_line_ascii words (lines.SetReg x value) h = pair_ascii nowhere words (codes "reg") h.numbers (x ∷ value ∷ []) h.words_are refl h.are_numbers
+
+words_ascii : (count : ℕ) (words : List (List ℕ)) (said : Option Said) → StandsFor count words said → AreAscii words
+words_ascii count words None h = ap (list_all (list_all is_ascii)) h
+words_ascii count words (Some (says.Line line)) h = own_line_ascii words line h
+words_ascii count words (Some (says.Run turns)) h = pair_ascii nowhere words (codes "run") h.numbers (turns ∷ []) h.words_are refl h.are_numbers
+words_ascii count words (Some (says.Core core)) h = pair_ascii nowhere words (codes "core") h.numbers (core ∷ []) h.words_are refl h.are_numbers
 
 front_ascii : (text : List ℕ) (words : List (List ℕ)) → AreWords text words → AreAscii words → list_all is_ascii text ≡ true
 front_ascii text [] h a = all_from is_blank is_ascii text blank_ascii h
@@ -362,16 +412,16 @@ front_ascii text (word ∷ words) h a =
 
 -- ---- lines
 
-pub line_is : (n : ℕ) (text : List ℕ) (line : Option Line) → IsLine text line → line_of n text ≡ Ok line
+pub line_is : (count n : ℕ) (text : List ℕ) (said : Option Said) → IsLine count text said → line_of count n text ≡ Ok said
 unfolding line_of
-line_is n text line h =
+line_is count n text said h =
     let before : before_comment text ≡ h.before = ap before_comment h.text_is ∙ front_is h.before h.comment h.no_sign h.is_comment in
-    let ascii : list_all is_ascii h.before ≡ true = front_ascii h.before h.words h.are_words (words_ascii h.words line h.stands) in
-    rw before (rw ascii (ap (line_of_words n) (words_are h.before h.words h.are_words) ∙ words_stand n h.words line h.stands))
+    let ascii : list_all is_ascii h.before ≡ true = front_ascii h.before h.words h.are_words (words_ascii count h.words said h.stands) in
+    rw before (rw ascii (ap (line_of_words count n) (words_are h.before h.words h.are_words) ∙ words_stand count n h.words said h.stands))
 
-pub line_found : (n : ℕ) (text : List ℕ) (line : Option Line) → line_of n text ≡ Ok line → IsLine text line
+pub line_found : (count n : ℕ) (text : List ℕ) (said : Option Said) → line_of count n text ≡ Ok said → IsLine count text said
 unfolding line_of
-line_found n text line h =
+line_found count n text said h =
     let c = has_comment text in
     elim (cases_Bool (list_all is_ascii (before_comment text))) [
       | inl t ↦ record {
@@ -382,7 +432,26 @@ line_found n text line h =
         no_sign = c.no_sign;
         is_comment = c.is_comment;
         are_words = words_found (before_comment text) (words_of (before_comment text)) refl;
-        stands = words_line_found n (words_of (before_comment text)) line (rw t at h);
+        stands = words_line_found count n (words_of (before_comment text)) said (rw t at h);
       }
-      | inr f ↦ err_ok (faults.BadLine n kinds.UnknownWord) line (IsLine text line) (rw f at h)
+      | inr f ↦ err_ok (faults.BadLine n kinds.UnknownWord) said (IsLine count text said) (rw f at h)
     ]
+
+own_line_may : (count : ℕ) (words : List (List ℕ)) (line : Line) → StandsForLine words line → MayBeSaid count (says.Line line)
+own_line_may count words (lines.Make call) h = refl
+own_line_may count words (lines.Run turns) h = absurd h
+own_line_may count words lines.Tick h = refl
+own_line_may count words (lines.LoadWord va) h = refl
+own_line_may count words (lines.StoreWord va value) h = refl
+own_line_may count words (lines.SetPc pc) h = refl
+own_line_may count words (lines.SetReg x value) h = refl
+
+pub stands_may : (count : ℕ) (words : List (List ℕ)) (said : Option Said) → StandsFor count words said → IfSome said (MayBeSaid count)
+stands_may count words None h = tt
+stands_may count words (Some (says.Line line)) h = own_line_may count words line h
+stands_may count words (Some (says.Run turns)) h = tt
+stands_may count words (Some (says.Core core)) h = h.below
+
+pub words_may : (count n : ℕ) (words : List (List ℕ)) (r : Result (Option Said) ScriptFault) → r ≡ line_of_words count n words → IfOk r (λ said. IfSome said (MayBeSaid count))
+words_may count n words (Ok said) h = stands_may count words said (words_line_found count n words said (sym h))
+words_may count n words (Err fault) h = tt

@@ -1,8 +1,9 @@
 -- What the readers answer, beside what reading gives. All of it is this project's own.
-use Rattle.std.specs.Prelude.{◌≡◌, ◌≤◌, ℕ, List, length, Option, Result, Ok, Err, IfSome, IfOk}
+use Rattle.std.specs.Prelude.{◌≡◌, ◌≤◌, ℕ, List, length, Option, Some, None, Result, Ok, Err, IfSome, IfOk}
 use Rattle.std.specs.List.{AllByRecursion}
 use Rattle.mon_types.specs.declared.script.Line.{Line}
 use Rattle.mon_types.specs.declared.script.Script.{Script}
+use Rattle.script_read.specs.Cores.{turns_of, turn_limit}
 use Rattle.script_read.specs.Grammar.{limit, IsScript}
 use Rattle.script_read.specs.Reading.{script_of}
 use Rattle.script_read.specs.declared.fault.ScriptFault.{ScriptFault}
@@ -45,6 +46,15 @@ widened (Err error) = Err (widened_error error)
 -- no core has more lines than a script has bytes at most
 abbrev pub AreFew : List (List Line) → Type 0
 AreFew script = AllByRecursion (λ made. length made ≤ limit) script
+
+-- no core's runs have more turns together than they may
+abbrev pub HaveFewTurns : List (List Line) → Type 0
+HaveFewTurns script = AllByRecursion (λ made. turns_of made ≤ turn_limit) script
+
+-- there are as many lists of lines as the count that is given; where none is given there are one to sixteen
+abbrev pub HasCount : Option ℕ → List (List Line) → Type 0
+HasCount None script = (1 ≤ length script) × (length script ≤ 16)
+HasCount (Some count) script = length script ≡ count
 
 -- what is read of a file is in the grammar, where its bytes are told
 abbrev pub FileFound : Option (List ℕ) → Option ℕ → Result Script ScriptError → Type 0

@@ -1,12 +1,15 @@
 -- The grammar of scripts, apart from the way in which they are read. All of it is this project's own.
 use Rattle.std.specs.Prelude.{◌≡◌, ℕ, ◌+◌, ◌-◌, ◌%◌, ◌^◌, ◌<◌, ◌≤◌, ◌⊎◌, Bool, true, false, ◌==◌, List, [], ◌∷◌, ◌++◌, length, replicate, codes, Option, Some, None, ⊤}
-use Rattle.std.specs.Option.{option_to_list, unwrap_or}
+use Rattle.std.specs.Option.{option_to_list}
 use Rattle.mon_types.specs.Calls.{call_name, call_args, call_of_registers}
 use Rattle.mon_types.specs.declared.call.Call.{Call}
 use Rattle.mon_types.specs.declared.call.Call.TheVariants as calls
 use Rattle.mon_types.specs.declared.script.Line.{Line}
 use Rattle.mon_types.specs.declared.script.Line.TheVariants as lines
 use Rattle.mon_types.specs.Owns.{os_word}
+use Rattle.script_read.specs.declared.said.Said.{Said}
+use Rattle.script_read.specs.declared.said.Said.TheVariants as says
+use Rattle.script_read.specs.Cores.{core_limit, core_count, turns_of_core, turn_limit, lists_for}
 use Rattle.text_in.specs.Bytes.{is_no_sign, Are}
 use Rattle.text_in.specs.Lines.{AreTextLines, IsComment}
 use Rattle.text_in.specs.Words.{AreWords}
@@ -79,20 +82,52 @@ pub record IsRegLine (words : List (List ℕ)) (x value : ℕ) : Type 0 where
   pub from : 1 ≤ x
   pub to : x ≤ 31
 
--- what the words of a line stand for: no words, a call by its name or by its number, tick, pc or reg; so far no run,
--- load or store
-abbrev pub StandsFor : List (List ℕ) → Option Line → Type 0
-StandsFor words None = words ≡ []
-StandsFor words (Some (lines.Make call)) = IsCallLine words call ⊎ IsEcallLine words call
-StandsFor words (Some (lines.Run n)) = ⊥
-StandsFor words (Some lines.Tick) = words ≡ codes "tick" ∷ []
-StandsFor words (Some (lines.LoadWord va)) = ⊥
-StandsFor words (Some (lines.StoreWord va value)) = ⊥
-StandsFor words (Some (lines.SetPc pc)) = IsPcLine words pc
-StandsFor words (Some (lines.SetReg x value)) = IsRegLine words x value
+-- the words are `run` and a number of turns
+pub record IsRunLine (words : List (List ℕ)) (turns : ℕ) : Type 0 where
+  pub numbers : List (List ℕ)
+  pub words_are : words ≡ codes "run" ∷ numbers
+  pub are_numbers : AreNumbers numbers (turns ∷ [])
+
+-- the words are `load` and a virtual address
+pub record IsLoadLine (words : List (List ℕ)) (va : ℕ) : Type 0 where
+  pub numbers : List (List ℕ)
+  pub words_are : words ≡ codes "load" ∷ numbers
+  pub are_numbers : AreNumbers numbers (va ∷ [])
+
+-- the words are `store`, a virtual address and a word of 64 bits
+pub record IsStoreLine (words : List (List ℕ)) (va value : ℕ) : Type 0 where
+  pub numbers : List (List ℕ)
+  pub words_are : words ≡ codes "store" ∷ numbers
+  pub are_numbers : AreNumbers numbers (va ∷ value ∷ [])
+
+-- the words are `core` and the number of a core, which is below this count
+pub record IsCoreLine (count : ℕ) (words : List (List ℕ)) (core : ℕ) : Type 0 where
+  pub numbers : List (List ℕ)
+  pub words_are : words ≡ codes "core" ∷ numbers
+  pub are_numbers : AreNumbers numbers (core ∷ [])
+  pub below : core < count
+
+-- what the words of a line stand for, as a line of a core: a call by its name or by its number, tick, load, store, pc
+-- or reg; a run is told apart
+abbrev pub StandsForLine : List (List ℕ) → Line → Type 0
+StandsForLine words (lines.Make call) = IsCallLine words call ⊎ IsEcallLine words call
+StandsForLine words (lines.Run turns) = ⊥
+StandsForLine words lines.Tick = words ≡ codes "tick" ∷ []
+StandsForLine words (lines.LoadWord va) = IsLoadLine words va
+StandsForLine words (lines.StoreWord va value) = IsStoreLine words va value
+StandsForLine words (lines.SetPc pc) = IsPcLine words pc
+StandsForLine words (lines.SetReg x value) = IsRegLine words x value
+
+-- what the words of a line say, where cores are below this count: nothing, a line of a core, a run of a core, or whose
+-- the lines behind it are
+abbrev pub StandsFor : ℕ → List (List ℕ) → Option Said → Type 0
+StandsFor count words None = words ≡ []
+StandsFor count words (Some (says.Line line)) = StandsForLine words line
+StandsFor count words (Some (says.Run turns)) = IsRunLine words turns
+StandsFor count words (Some (says.Core core)) = IsCoreLine count words core
 
 -- the text of a line is words and a comment
-pub record IsLine (text : List ℕ) (line : Option Line) : Type 0 where
+pub record IsLine (count : ℕ) (text : List ℕ) (said : Option Said) : Type 0 where
   pub before : List ℕ
   pub comment : List ℕ
   pub words : List (List ℕ)
@@ -100,14 +135,14 @@ pub record IsLine (text : List ℕ) (line : Option Line) : Type 0 where
   pub no_sign : Are is_no_sign before
   pub is_comment : IsComment comment
   pub are_words : AreWords before words
-  pub stands : StandsFor words line
+  pub stands : StandsFor count words said
 
--- the texts of lines stand for these lines, empty ones for none
-abbrev pub AreLines : List (List ℕ) → List Line → Type 0
-AreLines [] made = made ≡ []
-AreLines (text ∷ texts) made =
-    (line : Option Line) × (others : List Line) × IsLine text line × (made ≡ option_to_list line ++ others)
-    × AreLines texts others
+-- the texts of lines say this, one after the other, empty ones nothing
+abbrev pub AreLines : ℕ → List (List ℕ) → List Said → Type 0
+AreLines count [] said = said ≡ []
+AreLines count (text ∷ texts) said =
+    (first : Option Said) × (others : List Said) × IsLine count text first × (said ≡ option_to_list first ++ others)
+    × AreLines count texts others
 
 -- ---- the whole file
 
@@ -115,19 +150,14 @@ AreLines (text ∷ texts) made =
 abbrev pub limit : ℕ
 limit = 1048576
 
--- how many lists of lines a script has: the count of cores that is given, or one, since no line names a core yet
-abbrev pub core_count : Option ℕ → ℕ
-core_count cores = unwrap_or cores 1
-
--- the lists of lines: those of core 0, and none for each further core
-abbrev pub for_cores : Option ℕ → List Line → List (List Line)
-for_cores cores made = made ∷ replicate (core_count cores - 1) []
-
--- the bytes are a script, which has these lists of lines where a count of cores is given, or none
+-- the bytes are a script, which has these lists of lines where a count of cores is given, or none: its lines name cores
+-- below the count, or below 16 where none is given; no core's runs have more turns together than they may; and the
+-- lists are what the lines say of each core
 pub record IsScript (cores : Option ℕ) (bytes : List ℕ) (script : List (List Line)) : Type 0 where
   pub within : length bytes ≤ limit
   pub texts : List (List ℕ)
-  pub made : List Line
+  pub said : List Said
   pub are_texts : AreTextLines bytes texts
-  pub are_lines : AreLines texts made
-  pub script_is : script ≡ for_cores cores made
+  pub are_lines : AreLines (core_limit cores) texts said
+  pub few_turns : (core : ℕ) → turns_of_core core said ≤ turn_limit
+  pub script_is : script ≡ lists_for (core_count cores said) said

@@ -1,4 +1,6 @@
+pub mod Cores
 pub mod Grammar
 pub mod Forms
 pub mod Reading
 pub mod Answers
+pub mod Drafts

@@ -1,7 +1,7 @@
 -- Reading a script line by line from its start, with the first fault that is met. All of it is this project's own.
 use Rattle.std.specs.Prelude.{ℕ, ◌+◌, ◌-◌, ◌^◌, nat_lt, ◌&&◌, if◌then◌else◌, List, [], ◌∷◌, ◌++◌, length, replicate, codes, Option, Some, None, Result, Ok, Err}
 use Rattle.std.specs.List.{list_all}
-use Rattle.std.specs.Option.{option_and_then, option_map, option_to_list, ok_or}
+use Rattle.std.specs.Option.{option_and_then, option_map}
 use Rattle.std.specs.Char.{is_ascii}
 use Rattle.std.specs.Str.{bytes_eq}
 use Rattle.mon_types.specs.declared.script.Line.{Line}
@@ -10,13 +10,16 @@ use Rattle.script_read.specs.declared.fault.LineKind.{LineKind}
 use Rattle.script_read.specs.declared.fault.LineKind.TheVariants as kinds
 use Rattle.script_read.specs.declared.fault.ScriptFault.{ScriptFault}
 use Rattle.script_read.specs.declared.fault.ScriptFault.TheVariants as faults
+use Rattle.script_read.specs.declared.said.Said.{Said}
+use Rattle.script_read.specs.declared.said.Said.TheVariants as says
 use Rattle.text_in.specs.Cuts.{before_comment}
 use Rattle.text_in.specs.Lines.{lines_of}
 use Rattle.text_in.specs.Words.{words_of}
 use Rattle.text_in.specs.Numbers.{unsigned_of, up_to}
-use Rattle.script_read.specs.Grammar.{limit, for_cores}
 use Rattle.mon_types.specs.Owns.{os_word}
-use Rattle.script_read.specs.Forms.{least, most, takes_os, form_line, form_named, is_later_word}
+use Rattle.script_read.specs.Cores.{core_limit, core_count, core_after, turns_of_core, turn_limit, lists_for}
+use Rattle.script_read.specs.Grammar.{limit}
+use Rattle.script_read.specs.Forms.{least, most, takes_os, form_said, form_named}
 
 -- the number of a word, where it is one below 2 ^ 64
 abbrev pub number_of : List ℕ → Option ℕ
@@ -37,37 +40,37 @@ arguments_of form place (word ∷ words) =
 abbrev pub with_zeros : ℕ → List ℕ → List ℕ
 with_zeros count args = args ++ replicate (count - length args) 0
 
--- the line of a form with these arguments, where each of them is one and may stand there
-abbrev pub line_with : Form → Option (List ℕ) → Option Line
-line_with form read = option_and_then (λ args. form_line form (with_zeros 7 args)) read
+-- what a line of a form says with these arguments, where each of them is a number; cores are below this count
+abbrev pub said_with : ℕ → Form → Option (List ℕ) → Result Said LineKind
+said_with count form None = Err kinds.BadNumber
+said_with count form (Some args) = form_said count form (with_zeros 7 args)
 
--- the line of a form with the arguments that these words stand for
-unfoldable pub form_read : Form → List (List ℕ) → Result Line LineKind
-form_read form words =
+-- what a line of a form says with the arguments that these words stand for
+unfoldable pub form_read : ℕ → Form → List (List ℕ) → Result Said LineKind
+form_read count form words =
     if nat_lt (length words) (least form) then Err kinds.MissingWord
     else if nat_lt (most form) (length words) then Err kinds.ExtraWord
-    else ok_or (line_with form (arguments_of form 0 words)) kinds.BadNumber
+    else said_with count form (arguments_of form 0 words)
 
--- the line, or what is wrong with it, at this number
-abbrev pub at_line : ℕ → Result Line LineKind → Result (Option Line) ScriptFault
-at_line n (Ok line) = Ok (Some line)
+-- what was said, or what is wrong with the line of this number
+abbrev pub at_line : ℕ → Result Said LineKind → Result (Option Said) ScriptFault
+at_line n (Ok said) = Ok (Some said)
 at_line n (Err kind) = Err (faults.BadLine n kind)
 
--- the line of the form that the first word names, and an unknown word where it names none
-abbrev pub line_in : ℕ → Option Form → List (List ℕ) → Result (Option Line) ScriptFault
-line_in n None words = Err (faults.BadLine n kinds.UnknownWord)
-line_in n (Some form) words = at_line n (form_read form words)
+-- what the line of the form that the first word names says, and an unknown word where it names none
+abbrev pub line_in : ℕ → ℕ → Option Form → List (List ℕ) → Result (Option Said) ScriptFault
+line_in count n None words = Err (faults.BadLine n kinds.UnknownWord)
+line_in count n (Some form) words = at_line n (form_read count form words)
 
--- what the words of the line of this number stand for
-unfoldable pub line_of_words : ℕ → List (List ℕ) → Result (Option Line) ScriptFault
-line_of_words n [] = Ok None
-line_of_words n (word ∷ words) =
-    if is_later_word word then Err (faults.NotBuilt n) else line_in n (form_named word) words
+-- what the words of the line of this number say
+unfoldable pub line_of_words : ℕ → ℕ → List (List ℕ) → Result (Option Said) ScriptFault
+line_of_words count n [] = Ok None
+line_of_words count n (word ∷ words) = line_in count n (form_named word) words
 
--- what the line of this number stands for
-unfoldable pub line_of : ℕ → List ℕ → Result (Option Line) ScriptFault
-line_of n text =
-    if list_all is_ascii (before_comment text) then line_of_words n (words_of (before_comment text))
+-- what the line of this number says, where cores are below this count
+unfoldable pub line_of : ℕ → ℕ → List ℕ → Result (Option Said) ScriptFault
+line_of count n text =
+    if list_all is_ascii (before_comment text) then line_of_words count n (words_of (before_comment text))
     else Err (faults.BadLine n kinds.UnknownWord)
 
 -- goes on with what was read, or keeps the fault
@@ -76,18 +79,34 @@ abbrev pub ◌>>=◌ : {A B : Type 0} → Result A ScriptFault → (A → Result
 (Ok x) >>= f = f x
 (Err fault) >>= f = Err fault
 
--- what these lines stand for, the first of which has this number
-unfoldable pub lines_from : ℕ → List (List ℕ) → Result (List Line) ScriptFault
-lines_from n [] = Ok []
-lines_from n (text ∷ texts) = do
-  line ← line_of n text
-  others ← lines_from (n + 1) texts
-  Ok (option_to_list line ++ others)
+-- what was said before, and this behind it; a run is a fault of the line of this number where with it the turns of its
+-- core are more than they may be
+abbrev pub said_next : ℕ → List Said → Said → Result (List Said) ScriptFault
+said_next n before (says.Line line) = Ok (before ++ says.Line line ∷ [])
+said_next n before (says.Run turns) =
+    if nat_lt turn_limit (turns_of_core (core_after before) before + turns) then Err (faults.TurnsOver n)
+    else Ok (before ++ says.Run turns ∷ [])
+said_next n before (says.Core core) = Ok (before ++ says.Core core ∷ [])
 
--- what the lines of the bytes stand for
-unfoldable pub all_lines : List ℕ → Result (List Line) ScriptFault
-all_lines bytes = if nat_lt limit (length bytes) then Err faults.TooLong else lines_from 1 (lines_of bytes)
+-- the same of a line that may be empty
+abbrev pub line_next : ℕ → List Said → Option Said → Result (List Said) ScriptFault
+line_next n before None = Ok before
+line_next n before (Some said) = said_next n before said
+
+-- what was said before, and what these lines say behind it, the first of which has this number
+unfoldable pub said_from : ℕ → ℕ → List Said → List (List ℕ) → Result (List Said) ScriptFault
+said_from count n before [] = Ok before
+said_from count n before (text ∷ texts) = do
+  line ← line_of count n text
+  said ← line_next n before line
+  said_from count (n + 1) said texts
+
+-- what the lines of the bytes say, where cores are below this count
+abbrev pub all_said : ℕ → List ℕ → Result (List Said) ScriptFault
+all_said count bytes = said_from count 1 [] (lines_of bytes)
 
 -- the lists of lines of a script, for the count of cores that is given, or for none
 unfoldable pub script_of : Option ℕ → List ℕ → Result (List (List Line)) ScriptFault
-script_of cores bytes = all_lines bytes >>= λ made. Ok (for_cores cores made)
+script_of cores bytes =
+    if nat_lt limit (length bytes) then Err faults.TooLong
+    else all_said (core_limit cores) bytes >>= λ said. Ok (lists_for (core_count cores said) said)

@@ -1,32 +1,42 @@
 //! The first words of lines.
 
 ghost use Rattle.std.specs.Prelude.{◌≡◌, ◌≤◌, IfSome};
-ghost use Rattle.std.specs.List.{find, list_any};
+ghost use Rattle.std.specs.List.{find};
 ghost use Rattle.std.specs.Str.{bytes_eq};
-ghost use Rattle.script_read.specs.Forms.{form_name, least, most, takes_os, form_line, pc_line, reg_line, form_named, is_later_word};
+ghost use Rattle.script_read.specs.Forms.{form_name, least, most, takes_os, form_said, pc_said, reg_said, core_said, form_named};
 
+use crate::fault::LineKind;
+use crate::said::Said;
 use mon_types::{Call, Line};
 
-/// The lines that are carried out so far, by what follows their first word.
+/// The lines, by what follows their first word.
 #[derive(Clone, Copy, Debug, PartialEq, Eq)]
 pub enum Form {
     /// The name of the call of this number, then exactly so many arguments.
     Named(u64, usize),
     /// `ecall`, the number of a call, and up to six arguments.
     Ecall,
+    /// `run` and a number of turns.
+    Run,
     /// `tick` alone.
     Tick,
+    /// `load` and a virtual address.
+    LoadWord,
+    /// `store`, a virtual address and a word.
+    StoreWord,
     /// `pc` and an address.
     SetPc,
     /// `reg`, the number of a register, and a word.
     SetReg,
+    /// `core` and the number of a core.
+    Core,
 }
 
 /// The number of the call `assign`.
 const ASSIGN: u64 = 3;
 
 /// All forms. Of the calls only 15 has no line of its own, since the machine alone makes it.
-const FORMS: [Form; 26] = [
+const FORMS: [Form; 30] = [
     Form::Named(1, 1),
     Form::Named(2, 1),
     Form::Named(ASSIGN, 2),
@@ -50,27 +60,14 @@ const FORMS: [Form; 26] = [
     Form::Named(22, 1),
     Form::Named(23, 4),
     Form::Ecall,
+    Form::Run,
     Form::Tick,
+    Form::LoadWord,
+    Form::StoreWord,
     Form::SetPc,
     Form::SetReg,
+    Form::Core,
 ];
-
-/// The first words of the lines that are not carried out yet.
-const LATER: [&str; 4] = ["core", "run", "load", "store"];
-
-/// Whether the word is the first of a line that is not carried out yet.
-#[tactic(auto, unfolding(crate::specs::Forms::later_words))]
-pub fn is_later(word: &[u8]) -> bool
-    ensures { result ≡ is_later_word word.now }
-{
-    is_among(&LATER, word)
-}
-
-fn is_among(names: &[&str], word: &[u8]) -> bool
-    ensures { result ≡ list_any (λ name. bytes_eq word.now name.now) names.now }
-{
-    names.iter().any(|name| word == name.as_bytes())
-}
 
 impl Form {
     /// The form of the lines that begin with this word.
@@ -99,9 +96,13 @@ impl Form {
         match self {
             Form::Named(number, _) => Call::of_registers(*number, [0; 6]).name(),
             Form::Ecall => "ecall",
+            Form::Run => "run",
             Form::Tick => "tick",
+            Form::LoadWord => "load",
+            Form::StoreWord => "store",
             Form::SetPc => "pc",
             Form::SetReg => "reg",
+            Form::Core => "core",
         }
     }
 
@@ -111,9 +112,9 @@ impl Form {
     {
         match self {
             Form::Named(_, arity) => arity,
-            Form::Ecall | Form::SetPc => 1,
+            Form::Ecall | Form::Run | Form::LoadWord | Form::SetPc | Form::Core => 1,
             Form::Tick => 0,
-            Form::SetReg => 2,
+            Form::StoreWord | Form::SetReg => 2,
         }
     }
 
@@ -123,7 +124,14 @@ impl Form {
     {
         match self {
             Form::Ecall => 7,
-            Form::Named(_, _) | Form::Tick | Form::SetPc | Form::SetReg => self.least(),
+            Form::Named(_, _)
+            | Form::Run
+            | Form::Tick
+            | Form::LoadWord
+            | Form::StoreWord
+            | Form::SetPc
+            | Form::SetReg
+            | Form::Core => self.least(),
         }
     }
 
@@ -133,46 +141,71 @@ impl Form {
     {
         match self {
             Form::Named(number, _) => number == ASSIGN && place == 1,
-            Form::Ecall | Form::Tick | Form::SetPc | Form::SetReg => false,
+            Form::Ecall
+            | Form::Run
+            | Form::Tick
+            | Form::LoadWord
+            | Form::StoreWord
+            | Form::SetPc
+            | Form::SetReg
+            | Form::Core => false,
         }
     }
 
-    /// The line with these arguments, behind which zeros stand. Numbers for which the line has no use
-    /// are dropped. None where the address of `pc` is no multiple of 4, and where the register of `reg`
-    /// is none of x1 to x31.
-    pub fn line(self, args: &[u64; 7]) -> Option<Line>
-        ensures { result ≡ form_line self args.now }
+    /// What the line with these arguments says, behind which zeros stand, where cores are below `count`.
+    /// Numbers for which the line has no use are dropped. `BadNumber` where the address of `pc` is no
+    /// multiple of 4, and where the register of `reg` is none of x1 to x31; `BadCore` where the core of
+    /// `core` is not below the count.
+    pub fn said(self, count: u8, args: &[u64; 7]) -> Result<Said, LineKind>
+        ensures { result ≡ form_said count self args.now }
     {
         let [a, b, c, d, e, f, g] = *args;
         match self {
             Form::Named(number, _) => {
                 let call = Call::of_registers(number, [a, b, c, d, e, f]);
-                Some(Line::Make(call))
+                Ok(Said::Line(Line::Make(call)))
             }
-            Form::Ecall => Some(Line::Make(Call::of_registers(a, [b, c, d, e, f, g]))),
-            Form::Tick => Some(Line::Tick),
-            Form::SetPc => pc_line(a),
-            Form::SetReg => reg_line(a, b),
+            Form::Ecall => {
+                let call = Call::of_registers(a, [b, c, d, e, f, g]);
+                Ok(Said::Line(Line::Make(call)))
+            }
+            Form::Run => Ok(Said::Run(a)),
+            Form::Tick => Ok(Said::Line(Line::Tick)),
+            Form::LoadWord => Ok(Said::Line(Line::LoadWord(a))),
+            Form::StoreWord => Ok(Said::Line(Line::StoreWord(a, b))),
+            Form::SetPc => pc_said(a),
+            Form::SetReg => reg_said(a, b),
+            Form::Core => core_said(count, a),
         }
     }
 }
 
-fn pc_line(pc: u64) -> Option<Line>
-    ensures { result ≡ pc_line pc }
+fn pc_said(pc: u64) -> Result<Said, LineKind>
+    ensures { result ≡ pc_said pc }
 {
     if pc % 4 == 0 {
-        Some(Line::SetPc(pc))
+        Ok(Said::Line(Line::SetPc(pc)))
     } else {
-        None
+        Err(LineKind::BadNumber)
     }
 }
 
-fn reg_line(x: u64, value: u64) -> Option<Line>
-    ensures { result ≡ reg_line x value }
+fn reg_said(x: u64, value: u64) -> Result<Said, LineKind>
+    ensures { result ≡ reg_said x value }
 {
     if (1..=31).contains(&x) {
-        Some(Line::SetReg(x as u8, value))
+        Ok(Said::Line(Line::SetReg(x as u8, value)))
     } else {
-        None
+        Err(LineKind::BadNumber)
+    }
+}
+
+fn core_said(count: u8, core: u64) -> Result<Said, LineKind>
+    ensures { result ≡ core_said count core }
+{
+    if core < u64::from(count) {
+        Ok(Said::Core(core as u8))
+    } else {
+        Err(LineKind::BadCore)
     }
 }

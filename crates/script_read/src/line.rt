@@ -1,24 +1,27 @@
 //! One line.
 
-ghost use Rattle.std.specs.Prelude.{◌≡◌, ◌≤◌, ◌∷◌, length};
+ghost use Rattle.std.specs.Prelude.{◌≡◌, ◌≤◌, ◌∷◌, length, IfOk, IfSome};
 ghost use Rattle.std.specs.Option.{option_map};
 ghost use Rattle.text_in.specs.Words.{words_of};
 ghost use Rattle.script_read.specs.Forms.{most};
-ghost use Rattle.script_read.specs.Reading.{argument_of, arguments_of, with_zeros, line_with, form_read, line_of_words, line_of};
+ghost use Rattle.script_read.specs.Drafts.{MayBeSaid};
+ghost use Rattle.script_read.specs.Reading.{argument_of, arguments_of, with_zeros, said_with, form_read, line_of_words, line_of};
 
 use crate::fault::{LineKind, ScriptFault};
-use crate::form::{Form, is_later};
-use mon_types::{Line, OS_WORD};
+use crate::form::Form;
+use crate::said::Said;
+use mon_types::OS_WORD;
 use text_in::{all_ascii, before_comment, count_words, next_word, unsigned_number};
 
-/// What the line of this number stands for; None where it is empty.
+/// What the line of this number says, where cores are below `count`; None where it is empty.
 #[tactic(auto, unfolding(crate::specs::Reading::line_of))]
-pub fn read_line(line: u32, text: &[u8]) -> Result<Option<Line>, ScriptFault>
-    ensures { result ≡ line_of line text.now }
+pub fn read_line(count: u8, line: u32, text: &[u8]) -> Result<Option<Said>, ScriptFault>
+    ensures value { result ≡ line_of count line text.now }
+    ensures may { IfOk result (λ said. IfSome said (MayBeSaid count)) }
 {
     let before = before_comment(text);
     if all_ascii(before) {
-        read_words(line, before)
+        read_words(count, line, before)
     } else {
         Err(ScriptFault::BadLine {
             line,
@@ -28,49 +31,48 @@ pub fn read_line(line: u32, text: &[u8]) -> Result<Option<Line>, ScriptFault>
 }
 
 #[tactic(auto, unfolding(crate::specs::Reading::line_of_words))]
-fn read_words(line: u32, text: &[u8]) -> Result<Option<Line>, ScriptFault>
-    ensures { result ≡ line_of_words line (words_of text.now) }
+fn read_words(count: u8, line: u32, text: &[u8]) -> Result<Option<Said>, ScriptFault>
+    ensures { result ≡ line_of_words count line (words_of text.now) }
 {
     let Some((word, rest)) = next_word(text) else {
         return Ok(None);
     };
-    if is_later(word) {
-        return Err(ScriptFault::NotBuilt { line });
-    }
     let Some(form) = Form::of_word(word) else {
         return Err(ScriptFault::BadLine {
             line,
             kind: LineKind::UnknownWord,
         });
     };
-    match read_form(form, rest) {
-        Ok(made) => Ok(Some(made)),
+    match read_form(count, form, rest) {
+        Ok(said) => Ok(Some(said)),
         Err(kind) => Err(ScriptFault::BadLine { line, kind }),
     }
 }
 
-/// The line of this form with the arguments that the text has.
+/// What the line of this form says with the arguments that the text has.
 #[tactic(auto, unfolding(crate::specs::Reading::form_read))]
-fn read_form(form: Form, text: &[u8]) -> Result<Line, LineKind>
+fn read_form(count: u8, form: Form, text: &[u8]) -> Result<Said, LineKind>
     requires { most form ≤ 7 }
-    ensures { result ≡ form_read form (words_of text.now) }
+    ensures { result ≡ form_read count form (words_of text.now) }
 {
-    let count = count_words(text);
-    if count < form.least() {
+    let words = count_words(text);
+    if words < form.least() {
         return Err(LineKind::MissingWord);
     }
-    if count > form.most() {
+    if words > form.most() {
         return Err(LineKind::ExtraWord);
     }
-    read_numbers(form, text).ok_or(LineKind::BadNumber)
+    read_numbers(count, form, text)
 }
 
-fn read_numbers(form: Form, text: &[u8]) -> Option<Line>
+fn read_numbers(count: u8, form: Form, text: &[u8]) -> Result<Said, LineKind>
     requires { length (words_of text.now) ≤ 7 }
-    ensures { result ≡ line_with form (arguments_of form 0 (words_of text.now)) }
+    ensures { result ≡ said_with count form (arguments_of form 0 (words_of text.now)) }
 {
-    let args = read_arguments(form, text)?;
-    form.line(&args)
+    match read_arguments(form, text) {
+        Some(args) => form.said(count, &args),
+        None => Err(LineKind::BadNumber),
+    }
 }
 
 /// The numbers that the words stand for, and zeros behind them.

@@ -3,14 +3,15 @@
 ghost use Rattle.std.specs.Prelude.{◌≡◌, ◌≤◌, ℕ, List, length, Ok, Err, IfOk, IfSome};
 ghost use Rattle.mon_types.specs.declared.script.Line.{Line};
 ghost use Rattle.sm_ports.specs.Causes.{Rose};
-ghost use Rattle.text_in.specs.Lines.{lines_of};
-ghost use Rattle.script_read.specs.Grammar.{core_count, for_cores, limit, IsScript};
-ghost use Rattle.script_read.specs.Reading.{lines_from, all_lines, script_of};
-ghost use Rattle.script_read.specs.Answers.{Gives, FileFound, FileOnly, FileExact, widened, AreFew};
+ghost use Rattle.script_read.specs.Grammar.{limit, IsScript};
+ghost use Rattle.script_read.specs.Reading.{all_said, script_of};
+ghost use Rattle.script_read.specs.Answers.{Gives, FileFound, FileOnly, FileExact, widened, AreFew, HaveFewTurns, HasCount};
+ghost use Rattle.script_read.specs.Drafts.{Drafts};
 
+use crate::draft::Draft;
 use crate::fault::{ParseError, ScriptError, ScriptFault};
 use crate::line::read_line;
-use mon_types::{Items, Line, Script};
+use mon_types::Script;
 use sm_ports::{Depot, Failed, ReadError, read_file};
 use std::alloc::Global;
 use text_in::next_line;
@@ -18,8 +19,12 @@ use text_in::next_line;
 /// The most bytes of a script.
 pub const LIMIT: usize = 1_048_576;
 
+/// A script names cores below this number where no count of cores is given.
+pub const MOST_CORES: u8 = 16;
+
 /// Reads a script from a file of the depot. Where a count of cores is given, at least 1, the script has a
-/// list of lines for each core below it, and where none is given for each core that it names.
+/// list of lines for each core below it; where none is given, for each core from 0 up to the greatest that
+/// it names, or for core 0 alone.
 ///
 /// `ScriptError::Fault` is the first fault of the file's bytes; it comes only where they are outside the
 /// grammar or more than `LIMIT`, and always there unless memory or a read fails. `ScriptError::Read`
@@ -34,8 +39,9 @@ pub fn read_script<D: Depot>(
     ensures found { FileFound (D.contents depot.old name.now) cores result }
     ensures only { FileOnly (D.contents depot.old name.now) cores result }
     ensures exact { FileExact (D.contents depot.old name.now) cores result }
-    ensures count { IfOk result (λ s. length s.cores ≡ core_count cores) }
+    ensures count { IfOk result (λ s. HasCount cores s.cores) }
     ensures few { IfOk result (λ s. AreFew s.cores) }
+    ensures turns { IfOk result (λ s. HaveFewTurns s.cores) }
     ensures read { (failed : Failed) → result ≡ Err (ScriptError.Read failed) → Rose (D.faults depot.old name.now) (D.faults depot.new name.now) }
     ensures contents { D.contents depot.new ≡ D.contents depot.old }
     ensures later { (other : List ℕ) → D.faults depot.old other ≤ D.faults depot.new other }
@@ -51,8 +57,9 @@ fn read<D: Depot>(
 ) -> Result<Script, ScriptError>
     requires { IfSome cores (λ count. 1 ≤ count) }
     ensures exact { FileExact (D.contents depot.old name.now) cores result }
-    ensures count { IfOk result (λ s. length s.cores ≡ core_count cores) }
+    ensures count { IfOk result (λ s. HasCount cores s.cores) }
     ensures few { IfOk result (λ s. AreFew s.cores) }
+    ensures turns { IfOk result (λ s. HaveFewTurns s.cores) }
     ensures read { (failed : Failed) → result ≡ Err (ScriptError.Read failed) → Rose (D.faults depot.old name.now) (D.faults depot.new name.now) }
     ensures contents { D.contents depot.new ≡ D.contents depot.old }
     ensures later { (other : List ℕ) → D.faults depot.old other ≤ D.faults depot.new other }
@@ -75,7 +82,8 @@ fn widen(parsed: Result<Script, ParseError>) -> Result<Script, ScriptError>
 }
 
 /// Reads a script from its bytes. Where a count of cores is given, at least 1, the script has a list of
-/// lines for each core below it, and where none is given for each core that it names.
+/// lines for each core below it; where none is given, for each core from 0 up to the greatest that it
+/// names, or for core 0 alone.
 ///
 /// `ParseError::Fault` is the first fault of the bytes; it comes only where they are outside the
 /// grammar or more than `LIMIT`, and always there unless memory runs out.
@@ -87,8 +95,9 @@ pub fn parse_script(alloc: Global, bytes: &[u8], cores: Option<u8>) -> Result<Sc
     ensures only { (script : List (List Line)) → IsScript cores bytes.now script → Gives (λ s. s.cores) result (Ok script) }
     // Which fault it is.
     ensures exact { Gives (λ s. s.cores) result (script_of cores bytes.now) }
-    ensures count { IfOk result (λ s. length s.cores ≡ core_count cores) }
+    ensures count { IfOk result (λ s. HasCount cores s.cores) }
     ensures few { IfOk result (λ s. AreFew s.cores) }
+    ensures turns { IfOk result (λ s. HaveFewTurns s.cores) }
 {
     parse(alloc, bytes, cores)
 }
@@ -99,49 +108,29 @@ fn parse(alloc: Global, bytes: &[u8], cores: Option<u8>) -> Result<Script, Parse
     ensures exact { Gives (λ s. s.cores) result (script_of cores bytes.now) }
     ensures few { IfOk result (λ s. AreFew s.cores) }
 {
-    let lines = parse_lines(alloc, bytes)?;
-    spread(alloc, lines, cores)
-}
-
-/// The lines of all cores, where `lines` are those of core 0 and no other core has any.
-fn spread(alloc: Global, lines: Items<Line>, cores: Option<u8>) -> Result<Script, ParseError>
-    requires { IfSome cores (λ count. 1 ≤ count) }
-    ensures { Gives (λ s. s.cores) result (Ok (for_cores cores lines)) }
-{
-    let mut all = Items::new(alloc);
-    all.push(lines)?;
-    for _ in 1..cores.unwrap_or(1) {
-        all.push(Items::new(alloc))?;
-    }
-    Ok(Script { cores: all })
-}
-
-#[tactic(auto, unfolding(crate::specs::Reading::all_lines))]
-fn parse_lines(alloc: Global, bytes: &[u8]) -> Result<Items<Line>, ParseError>
-    ensures exact { Gives (λ lines. lines) result (all_lines bytes.now) }
-    ensures few { IfOk result (λ lines. length lines ≤ limit) }
-{
     if bytes.len() > LIMIT {
         return Err(ParseError::Fault(ScriptFault::TooLong));
     }
-    parse_each(alloc, bytes)
+    let draft = read_lines(alloc, bytes, cores.unwrap_or(MOST_CORES))?;
+    Ok(draft.finish(cores))
 }
 
-fn parse_each(alloc: Global, bytes: &[u8]) -> Result<Items<Line>, ParseError>
-    requires { length bytes.now ≤ limit }
-    ensures exact { Gives (λ lines. lines) result (lines_from 1 (lines_of bytes.now)) }
-    ensures few { IfOk result (λ lines. length lines ≤ limit) }
+/// What the lines say, where cores are below `count`.
+fn read_lines(alloc: Global, bytes: &[u8], count: u8) -> Result<Draft, ParseError>
+    requires bytes { length bytes.now ≤ limit }
+    requires count { 1 ≤ count }
+    ensures { Drafts count result (all_said count bytes.now) }
 {
-    let mut lines = Items::new(alloc);
+    let mut draft = Draft::new(alloc, count)?;
     let mut line = 0u32;
     let mut rest = bytes;
     while !rest.is_empty() {
         let (text, after) = next_line(rest);
         line += 1;
-        if let Some(made) = read_line(line, text)? {
-            lines.push(made)?;
+        if let Some(said) = read_line(count, line, text)? {
+            draft.take(line, said)?;
         }
         rest = after;
     }
-    Ok(lines)
+    Ok(draft)
 }

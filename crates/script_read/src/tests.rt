@@ -1,5 +1,7 @@
 //! Scripts that are read, and the fault of each that is not.
 
+ghost use Rattle.std.specs.Prelude.{◌≤◌, IfSome};
+
 use crate::{LIMIT, ParseError, ScriptError, parse_script, read_script};
 use mon_types::{Call, Line, OS_WORD};
 use sm_ports::MapDepot;
@@ -20,7 +22,14 @@ fn only_line(alloc: Global, text: &[u8]) -> Option<Line> {
 
 /// What is wrong with a script; the empty text where nothing is.
 fn fault(alloc: Global, text: &[u8]) -> Result<String, AllocError> {
-    match parse_script(alloc, text, None) {
+    fault_for(alloc, text, None)
+}
+
+/// The same for a count of cores, or for none.
+fn fault_for(alloc: Global, text: &[u8], cores: Option<u8>) -> Result<String, AllocError>
+    requires { IfSome cores (λ count. 1 ≤ count) }
+{
+    match parse_script(alloc, text, cores) {
         Ok(_) => Ok(String::new(alloc)),
         Err(ParseError::Fault(fault)) => format!(in alloc; "{fault}"),
         Err(ParseError::Memory) => String::from_str(alloc, "no memory"),
@@ -51,10 +60,7 @@ fn the_first_fault_is_named(rt: HostRuntime) -> Result<(), Fail> {
         (b"block -1", "script line 1 bad number"),
         (b"block 18446744073709551616", "script line 1 bad number"),
         (b"block 0x10000000000000000", "script line 1 bad number"),
-        (b"flush\nrun", "script line 2 not built"),
-        (b"core 99 x", "script line 1 not built"),
-        (b"load", "script line 1 not built"),
-        (b"store 1", "script line 1 not built"),
+        (b"flush\nrun", "script line 2 missing word"),
         (b"reserve 1 2 x", "script line 1 missing word"),
         (b"send 1 2 3 4 5 6 x", "script line 1 extra word"),
         (b"accept os 1", "script line 1 bad number"),
@@ -72,6 +78,115 @@ fn the_first_fault_is_named(rt: HostRuntime) -> Result<(), Fail> {
         (b"reg x1 1", "script line 1 bad number"),
     ] {
         assert_eq!(rt; fault(alloc, text)?.as_str(), want);
+    }
+    Ok(())
+}
+
+#[test]
+fn kinds_are_tested_in_order(rt: HostRuntime) -> Result<(), Fail> {
+    let alloc = rt.alloc();
+    for (text, want) in [
+        (b"core".as_slice(), "script line 1 missing word"),
+        (b"core 99 x", "script line 1 extra word"),
+        (b"core os", "script line 1 bad number"),
+        (b"core 18446744073709551616", "script line 1 bad number"),
+        (b"core 16", "script line 1 bad core"),
+        (b"core 256", "script line 1 bad core"),
+        (b"core 0xffffffffffffffff", "script line 1 bad core"),
+        (b"core \x80", "script line 1 unknown word"),
+        (b"run 1 2", "script line 1 extra word"),
+        (b"run x", "script line 1 bad number"),
+        (b"run 18446744073709551616", "script line 1 bad number"),
+        (b"load", "script line 1 missing word"),
+        (b"load 1 2", "script line 1 extra word"),
+        (b"load -1", "script line 1 bad number"),
+        (b"store 1", "script line 1 missing word"),
+        (b"store 1 2 3", "script line 1 extra word"),
+        (b"store x 2", "script line 1 bad number"),
+        (b"store 1 os", "script line 1 bad number"),
+        (b"\n# one\ncore 16\nblok", "script line 3 bad core"),
+    ] {
+        assert_eq!(rt; fault(alloc, text)?.as_str(), want);
+    }
+    Ok(())
+}
+
+#[test]
+fn turns_are_counted_for_each_core(rt: HostRuntime) -> Result<(), Fail> {
+    let alloc = rt.alloc();
+    for (text, want) in [
+        (b"run 1000000\nrun 0".as_slice(), ""),
+        (b"run 999999\nrun 1", ""),
+        (b"run 1000000\ncore 1\nrun 1000000", ""),
+        (b"run 1000000\nrun 1", "script line 2 turns over"),
+        (b"run 1000001", "script line 1 turns over"),
+        (b"run 0xF4241", "script line 1 turns over"),
+        (b"run 4294967296", "script line 1 turns over"),
+        (b"run 18446744073709551615", "script line 1 turns over"),
+        (
+            b"run 1\nrun 18446744073709551615",
+            "script line 2 turns over",
+        ),
+        (
+            b"core 1\nrun 1000000\n\ncore 0\nrun 1000000\ncore 1\ntick\nrun 1",
+            "script line 8 turns over",
+        ),
+        (b"run 1000001\nblok", "script line 1 turns over"),
+        (b"blok\nrun 1000001", "script line 1 unknown word"),
+    ] {
+        assert_eq!(rt; fault(alloc, text)?.as_str(), want);
+    }
+    Ok(())
+}
+
+#[test]
+fn cores_are_below_their_count(rt: HostRuntime) -> Result<(), Fail> {
+    let alloc = rt.alloc();
+    for (text, cores, want) in [
+        (b"core 0".as_slice(), Some(1), ""),
+        (b"core 1", Some(1), "script line 1 bad core"),
+        (b"core 2", Some(3), ""),
+        (b"core 3", Some(3), "script line 1 bad core"),
+        (b"core 20", Some(21), ""),
+        (b"core 15", None, ""),
+    ] {
+        assert_eq!(rt; fault_for(alloc, text, cores)?.as_str(), want);
+    }
+    Ok(())
+}
+
+#[test]
+fn lines_go_to_the_core_that_is_named(rt: HostRuntime) -> Result<(), Fail> {
+    let alloc = rt.alloc();
+    let text = b"tick\ncore 2 # \x80\nrun 5\nload 0x1F\n\ncore 0\nflush\ncore 2\nstore 1 2\n";
+    let script = parse_script(alloc, text, None).expect(&rt, "a script");
+    let lists = script.cores.as_slice();
+    assert_eq!(rt; lists.len(), 3);
+    assert_eq!(rt;
+        lists[0].as_slice(),
+        [Line::Tick, Line::Make(Call::Flush)].as_slice()
+    );
+    assert!(rt; lists[1].is_empty());
+    assert_eq!(rt;
+        lists[2].as_slice(),
+        [Line::Run(5), Line::LoadWord(31), Line::StoreWord(1, 2)].as_slice()
+    );
+    Ok(())
+}
+
+#[test]
+fn each_core_has_a_list(rt: HostRuntime) -> Result<(), Fail> {
+    let alloc = rt.alloc();
+    for (text, cores, want) in [
+        (b"".as_slice(), None, 1),
+        (b"tick", None, 1),
+        (b"core 0", None, 1),
+        (b"core 15\ncore 3", None, 16),
+        (b"", Some(4), 4),
+        (b"core 1\ntick", Some(4), 4),
+    ] {
+        let script = parse_script(alloc, text, cores).expect(&rt, "a script");
+        assert_eq!(rt; script.cores.len(), want);
     }
     Ok(())
 }
@@ -154,6 +269,14 @@ fn other_lines_are_read(rt: HostRuntime) -> Result<(), Fail> {
             }),
         ),
         (b"tick", Line::Tick),
+        (b"run 0", Line::Run(0)),
+        (b"run 0x0f4240", Line::Run(1_000_000)),
+        (b"load 0", Line::LoadWord(0)),
+        (b"load 18446744073709551615", Line::LoadWord(u64::MAX)),
+        (
+            b"store 0x80000008 0xffffffffffffffff",
+            Line::StoreWord(0x8000_0008, u64::MAX),
+        ),
         (b"pc 0x80000004", Line::SetPc(0x8000_0004)),
         (b"reg 1 0", Line::SetReg(1, 0)),
         (b"reg 31 0xffffffffffffffff", Line::SetReg(31, u64::MAX)),
