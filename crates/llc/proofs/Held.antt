@@ -7,8 +7,8 @@ use Rattle.std.proofs.lemmas.Bool.{cases_Bool, cases_eq, eqb-true, eq-eqb, ne_eq
 use Rattle.std.proofs.lemmas.List.{map-append, reverse-append, length-take, get_or-set_same, get_or-set_other}
 use Rattle.std.proofs.lemmas.List.Elements.{filter-append}
 use Rattle.mon_types.specs.Shape.{Shape, region_of_page}
-use Rattle.dram_map.specs.Addresses.{dram_start}
 use Rattle.mon_types.specs.Sizes.{page_bytes}
+use Rattle.dram_map.specs.Addresses.{dram_start}
 use Rattle.llc.specs.Colours.{tag_of, region_of, set_of, set_count}
 use Rattle.llc.specs.Hits.{different, tags_in, tag_count, since, is_hit}
 use Rattle.llc.specs.Sets.{Cache, StandsFor, tags_at, held, has_tag, touched}

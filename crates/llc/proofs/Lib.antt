@@ -4,6 +4,7 @@ pub mod Own
 pub mod Reversed
 pub mod Places
 pub mod Whole
+pub mod Counts
 pub mod PutFirst
 pub mod Accessed
 pub mod Heads

@@ -13,10 +13,10 @@ use Rattle.llc.proofs.Held.{same_region, set_region, hit_found}
 
 -- ---- accesses that are left out
 
-kept : (p : ℕ → Bool) (x : ℕ) (xs : List ℕ) → p x ≡ true → filter p (x ∷ xs) ≡ x ∷ filter p xs
+pub kept : (p : ℕ → Bool) (x : ℕ) (xs : List ℕ) → p x ≡ true → filter p (x ∷ xs) ≡ x ∷ filter p xs
 kept p x xs e = rw e refl
 
-dropped : (p : ℕ → Bool) (x : ℕ) (xs : List ℕ) → p x ≡ false → filter p (x ∷ xs) ≡ filter p xs
+pub dropped : (p : ℕ → Bool) (x : ℕ) (xs : List ℕ) → p x ≡ false → filter p (x ∷ xs) ≡ filter p xs
 dropped p x xs f = rw f refl
 
 pub reverse-cons : (x : ℕ) (xs : List ℕ) → reverse (x ∷ xs) ≡ reverse xs ++ x ∷ []
@@ -85,7 +85,7 @@ since_left p tag stays (a ∷ xs) =
     ]
 
 -- two tests in turn, the second of which passes nothing that the first does not
-filter-filter : (p q : ℕ → Bool) → ((a : ℕ) → q a ≡ true → p a ≡ true) → (xs : List ℕ) → filter q (filter p xs) ≡ filter q xs
+pub filter-filter : (p q : ℕ → Bool) → ((a : ℕ) → q a ≡ true → p a ≡ true) → (xs : List ℕ) → filter q (filter p xs) ≡ filter q xs
 filter-filter p q implies [] = refl
 filter-filter p q implies (a ∷ xs) =
     let inner : filter q (filter p xs) ≡ filter q xs = filter-filter p q implies xs in

@@ -2,8 +2,8 @@
 -- Security 2016). Their numbers are this project's own.
 use Rattle.std.specs.Prelude.{ℕ, ◌+◌, ◌-◌, ◌*◌, ◌/◌, ◌%◌}
 use Rattle.mon_types.specs.Shape.{Shape, region_of_page}
-use Rattle.dram_map.specs.Addresses.{dram_start}
 use Rattle.mon_types.specs.Sizes.{page_bytes}
+use Rattle.dram_map.specs.Addresses.{dram_start}
 
 -- how many bytes a line has
 abbrev pub line_bytes : ℕ

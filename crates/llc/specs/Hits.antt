@@ -60,3 +60,10 @@ hits_behind shape ways earlier (a ∷ later) =
 -- for each access, whether it is a hit
 abbrev pub hits_of : Shape → ℕ → List ℕ → List Bool
 hits_of shape ways accesses = hits_behind shape ways [] accesses
+
+-- ---- a law
+
+-- what looking back computes is what a hit is, at each place of any list
+abbrev pub HitsAreComputed : Type 0
+HitsAreComputed = (shape : Shape) (ways : ℕ) (accesses : List ℕ)
+    → AreHits shape ways accesses (hits_of shape ways accesses)

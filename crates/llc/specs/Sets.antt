@@ -30,7 +30,7 @@ pub record StandsFor (cache : Cache) (accesses : List ℕ) : Type 0 where
 abbrev pub has_tag : ℕ → List ℕ → Bool
 has_tag tag tags = list_any (λ t. t == tag) tags
 
--- the tags without the first that is this one
+-- the tags without the first place at which this one stands, if it stands there
 abbrev pub without_tag : ℕ → List ℕ → List ℕ
 without_tag tag [] = []
 without_tag tag (t ∷ ts) = if t == tag then ts else t ∷ without_tag tag ts

@@ -99,9 +99,19 @@ fn set_number(config: &Config, address: u64) -> usize
     ensures within { result < set_count config.now }
     ensures tag { tag_of address < 2 ^ 32 }
 {
-    let page = page_of(config, address).unwrap();
     let line = address / LINE_BYTES % REGION_SETS as u64;
-    REGION_SETS * usize::from(config.region_of(page)) + line as usize
+    REGION_SETS * usize::from(region_of(config, address)) + line as usize
+}
+
+/// The region of an address in DRAM.
+pub fn region_of(config: &Config, address: u64) -> u8
+    requires { is_in_dram config.now address ≡ true }
+    ensures region { result ≡ region_of config.now address }
+    ensures within { result < config.now.regions }
+    ensures low { address < 2 ^ 32 }
+{
+    let page = page_of(config, address).unwrap();
+    config.region_of(page)
 }
 
 fn touch_set(sets: &mut [CacheSet], set: usize, tag: u32, ways: u8) -> bool

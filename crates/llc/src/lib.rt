@@ -6,11 +6,14 @@
 
 mod cache;
 mod cache_set;
+mod counting;
 mod fault;
 mod laws;
 mod line;
+mod print;
 mod read;
 mod run;
+mod tally;
 #[cfg(test)]
 mod tests;
 #[cfg(test)]
@@ -18,8 +21,11 @@ mod text_tests;
 mod trace;
 
 pub use cache::Llc;
+pub use counting::tallies;
 pub use fault::{ParseError, TraceError, TraceFault};
-pub use laws::regions_apart;
+pub use laws::{hits_are_computed, regions_apart};
+pub use print::print_tallies;
 pub use read::{LIMIT, parse_trace, read_trace};
 pub use run::hits;
+pub use tally::Tally;
 pub use trace::Trace;

@@ -1,7 +1,10 @@
 //! Traces that are read, the first faulty line of each that is not, and the hits of some.
 
-use crate::{LIMIT, ParseError, TraceError, TraceFault, hits, parse_trace, read_trace};
-use sm_ports::{DripDepot, Failed, MapDepot};
+use crate::{
+    LIMIT, ParseError, TraceError, TraceFault, hits, parse_trace, print_tallies, read_trace,
+    tallies,
+};
+use sm_ports::{DripDepot, Failed, MapDepot, VecSink};
 use std::alloc::{AllocError, Global};
 use std::test::Fail;
 
@@ -25,19 +28,87 @@ fn letters(alloc: Global, text: &[u8]) -> Result<String, ParseError> {
     Ok(letters)
 }
 
+/// What is printed of a trace to a sink with this room, whose calls of these numbers fail.
+fn printed(
+    alloc: Global,
+    text: &[u8],
+    room: usize,
+    fails: Vec<u32>,
+) -> Result<(VecSink, Result<(), Failed>), ParseError> {
+    let trace = parse_trace(alloc, text)?;
+    let tallies = tallies(alloc, &trace)?;
+    let mut out = VecSink::new(alloc, room, fails)?;
+    let result = print_tallies(&tallies, &mut out);
+    Ok((out, result))
+}
+
+const TWO_COLOURS: &[u8] = b"cache 2 1 0 1\n0x80000000\n0x80001000\n0x80000000\n0x80001000\n";
+
 #[test]
 fn two_colours(rt: HostRuntime) -> Result<(), Fail> {
-    let text = b"cache 2 1 0 1\n0x80000000\n0x80001000\n0x80000000\n0x80001000\n";
-    assert_eq!(rt; letters(rt.alloc(), text)?.as_str(), "mmhh");
+    let alloc = rt.alloc();
+    assert_eq!(rt; letters(alloc, TWO_COLOURS)?.as_str(), "mmhh");
+    let (out, result) = printed(alloc, TWO_COLOURS, 1000, Vec::new(alloc))?;
+    assert_eq!(rt; result, Ok(()));
+    assert_eq!(rt;
+        out.as_slice(),
+        b"region 0 accesses 2 hits 1\nregion 1 accesses 2 hits 1\nend\n".as_slice()
+    );
     Ok(())
 }
 
 #[test]
 fn one_set_thrashes(rt: HostRuntime) -> Result<(), Fail> {
+    let alloc = rt.alloc();
     let one = b"cache 2 2 0 1\n0x80000000\n0x80002000\n0x80000000\n";
-    assert_eq!(rt; letters(rt.alloc(), one)?.as_str(), "mmm");
+    assert_eq!(rt; letters(alloc, one)?.as_str(), "mmm");
+    let (out, result) = printed(alloc, one, 1000, Vec::new(alloc))?;
+    assert_eq!(rt; result, Ok(()));
+    assert_eq!(rt;
+        out.as_slice(),
+        b"region 0 accesses 3 hits 0\nregion 1 accesses 0 hits 0\nend\n".as_slice()
+    );
     let two = b"cache 2 2 0 2\n0x80000000\n0x80002000\n0x80000000\n";
-    assert_eq!(rt; letters(rt.alloc(), two)?.as_str(), "mmh");
+    assert_eq!(rt; letters(alloc, two)?.as_str(), "mmh");
+    let (out, result) = printed(alloc, two, 1000, Vec::new(alloc))?;
+    assert_eq!(rt; result, Ok(()));
+    assert_eq!(rt;
+        out.as_slice(),
+        b"region 0 accesses 3 hits 1\nregion 1 accesses 0 hits 0\nend\n".as_slice()
+    );
+    Ok(())
+}
+
+#[test]
+fn a_sink_that_fails_has_got_a_prefix(rt: HostRuntime) -> Result<(), Fail> {
+    let alloc = rt.alloc();
+    // the second call fails, behind the first line
+    let fails = [1].to_vec(alloc)?;
+    let (out, result) = printed(alloc, TWO_COLOURS, 1000, fails)?;
+    assert_eq!(rt; result, Err(Failed));
+    assert_eq!(rt; out.as_slice(), b"region 0 accesses 2 hits 1\n".as_slice());
+    // a sink with room for all but the last byte
+    let (out, result) = printed(alloc, TWO_COLOURS, 57, Vec::new(alloc))?;
+    assert_eq!(rt; result, Err(Failed));
+    assert_eq!(rt;
+        out.as_slice(),
+        b"region 0 accesses 2 hits 1\nregion 1 accesses 2 hits 1\nend".as_slice()
+    );
+    Ok(())
+}
+
+#[test]
+fn a_region_is_counted_without_the_others(rt: HostRuntime) -> Result<(), Fail> {
+    let alloc = rt.alloc();
+    // 64 regions; the last has the lines a, b and a again, and region 62 stands between
+    let text =
+        b"cache 64 2 0 1\n0x8003F000\n0x8003E000\n0x8003F03F\n0x8007F000\n0x8003E000\n0x8003F000\n";
+    let (out, result) = printed(alloc, text, 4000, Vec::new(alloc))?;
+    assert_eq!(rt; result, Ok(()));
+    // the lines of regions 0 to 9 have 27 bytes, those of 10 to 61 have 28, and then come these three
+    let last = b"region 62 accesses 2 hits 1\nregion 63 accesses 4 hits 1\nend\n".as_slice();
+    assert!(rt; out.as_slice().ends_with(last));
+    assert_eq!(rt; out.as_slice().len(), 10 * 27 + 52 * 28 + last.len());
     Ok(())
 }
 
