@@ -16,7 +16,8 @@ use Rattle.lock_plan.specs.Records.{records_of}
 use Rattle.mon_seq.specs.declared.begun.Begun.{Begun}
 use Rattle.mon_seq.specs.Begun.{begun_in}
 use Rattle.mon_seq.proofs.Decided.{not_early}
-use Rattle.solo.specs.Solo.{Core, pte_places}
+use Rattle.solo.specs.Core.{Core}
+use Rattle.solo.specs.Calls.{pte_places}
 
 -- its enclave is the first that it holds
 own_held : (s : State) (call : Call) → is_done (words_reply s call []) ≡ true → first_enclave (records_of s (held_tries s 0 call)) ≡ enclave_at s (slot_of call)

@@ -1,7 +1,7 @@
 -- What the finished run of one core owes, from the history of its core.
 use Rattle.std.proofs.Common.{◌≡◌, List, [], ◌∷◌, sym, ap, subst, ◌∙◌}
 use Rattle.mon_types.specs.Shape.{Shape}
-use Rattle.mon_types.specs.declared.image.Start.{Start}
+use Rattle.mon_types.specs.declared.image.Image.{Image}
 use Rattle.mon_types.specs.declared.script.Line.{Line}
 use Rattle.mon_model.specs.State.{State, start}
 use Rattle.mon_facts.specs.Tables.{AreTables}
@@ -11,14 +11,15 @@ use Rattle.hist.specs.History.{entries_of, history, after_entries, last_state}
 use Rattle.hist.specs.Legal.{AreTickets, AreLegalEntries, Legal, HasLastTables}
 use Rattle.hist.proofs.Growing.{history_of_one, own_of_one}
 use Rattle.report.specs.Report.{HasAllCores}
-use Rattle.solo.specs.Solo.{Core, core_start, core_from, finished_run, solo_run}
+use Rattle.solo.specs.Core.{Core, core_start}
+use Rattle.solo.specs.Solo.{core_from, finished_run, solo_run}
 use Rattle.solo.proofs.Runs.{HasHistory, has_history}
 
 -- ---- the whole run
 
 -- what the finished run of a script owes
-pub record WholeRun (shape : Shape) (first : Start) (script : List Line) (f : Finished) : Type 0 where
-  pub run : f ≡ solo_run shape first script
+pub record WholeRun (image : Image) (script : List Line) (f : Finished) : Type 0 where
+  pub run : f ≡ solo_run image script
   pub legal : Legal f.config (events_of f.logs)
   pub tables : HasLastTables f
   pub cores : HasAllCores f
@@ -44,9 +45,9 @@ last_tables c h =
       modes = ap (λ (s : State). s.modes) last;
     }
 
-of_core : (shape : Shape) (first : Start) (script : List Line) (c : Core) → c ≡ core_from (core_start shape first) 1 script → HasHistory c.state.shape c → c.state.shape.cores ≡ 1 → AreTables c.state
-    → WholeRun shape first script (finished_run c)
-of_core shape first script c is h single sound = record {
+of_core : (image : Image) (script : List Line) (c : Core) → c ≡ core_from (core_start image) 1 script → HasHistory c.state.shape c → c.state.shape.cores ≡ 1 → AreTables c.state
+    → WholeRun image script (finished_run c)
+of_core image script c is h single sound = record {
   run = ap finished_run is;
   legal = legal_log c h single;
   tables = last_tables c h;
@@ -54,11 +55,11 @@ of_core shape first script c is h single sound = record {
 }
 
 -- The run of a script, from what opening, running and finishing leave.
-pub whole_run : (shape : Shape) (first begin : Start) (script lines : List Line) (opened ran : Core) (f : Finished) → shape.cores ≡ 1 → begin ≡ first → lines ≡ script
-    → opened ≡ core_start shape begin → ran ≡ core_from opened 1 lines → f ≡ finished_run ran → AreTables ran.state → WholeRun shape first script f
-whole_run shape first begin script lines opened ran f single begin_is lines_is begun ran_is left sound =
-    let is : ran ≡ core_from (core_start shape first) 1 script =
-    ran_is ∙ ap (λ (c : Core). core_from c 1 lines) (begun ∙ ap (core_start shape) begin_is) ∙ ap (core_from (core_start shape first) 1) lines_is in
-    let h : HasHistory shape ran = subst (HasHistory shape) (sym is) (has_history shape first script) in
-    subst (WholeRun shape first script) (sym left)
-    (of_core shape first script ran is (subst (λ (x : Shape). HasHistory x ran) (sym h.machine) h) (ap (λ (x : Shape). x.cores) h.machine ∙ single) sound)
+pub whole_run : (image : Image) (script lines : List Line) (opened ran : Core) (f : Finished) → image.config.cores ≡ 1 → lines ≡ script
+    → opened ≡ core_start image → ran ≡ core_from opened 1 lines → f ≡ finished_run ran → AreTables ran.state → WholeRun image script f
+whole_run image script lines opened ran f single lines_is begun ran_is left sound =
+    let is : ran ≡ core_from (core_start image) 1 script =
+    ran_is ∙ ap (λ (c : Core). core_from c 1 lines) begun ∙ ap (core_from (core_start image) 1) lines_is in
+    let h : HasHistory image.config ran = subst (HasHistory image.config) (sym is) (has_history image script) in
+    subst (WholeRun image script) (sym left)
+    (of_core image script ran is (subst (λ (x : Shape). HasHistory x ran) (sym h.machine) h) (ap (λ (x : Shape). x.cores) h.machine ∙ single) sound)

@@ -5,11 +5,11 @@ ghost use Rattle.hist.specs.Logged.{events_of};
 ghost use Rattle.hist.specs.Legal.{Legal, HasLastTables};
 ghost use Rattle.report.specs.Report.{HasAllCores};
 ghost use Rattle.solo.specs.Solo.{solo_run};
-ghost use Rattle.solo.specs.Given.{lines_of_core_0, first_start, IsOneScript, IsBareImage};
+ghost use Rattle.solo.specs.Given.{lines_of_core_0, IsOneScript, IsOneImage};
 
 use crate::one_core::OneCore;
 use hist::Finished;
-use mon_types::{Image, Line, Script, Start};
+use mon_types::{Image, Line, Script};
 use std::alloc::{AllocError, Global};
 
 /// The lines of core 0.
@@ -22,28 +22,18 @@ fn lines_of(script: &Script) -> &[Line]
     }
 }
 
-/// Where core 0 starts.
-fn start_of(image: &Image) -> Start
-    ensures { result ≡ first_start image.now.starts }
-{
-    match image.starts.as_slice() {
-        [] => Start { pc: 0, sp: 0 },
-        [start, ..] => *start,
-    }
-}
-
 /// Runs a script on the machine of an image, which has one core, and answers what the run leaves. All
 /// memory is taken before the first line; the only error is the want of it.
 pub fn solo(alloc: Global, image: &Image, script: Script) -> Result<Finished, AllocError>
-    requires image { IsBareImage image.now }
+    requires image { IsOneImage image.now }
     requires script { IsOneScript script.cores }
-    ensures run { IfOk result (λ f. f ≡ solo_run image.now.config (first_start image.now.starts) (lines_of_core_0 script.cores)) }
+    ensures run { IfOk result (λ f. f ≡ solo_run image.now (lines_of_core_0 script.cores)) }
     // Its log is a legal history, and its tables are those that the history leaves.
     ensures legal { IfOk result (λ f. Legal f.config (events_of f.logs)) }
     ensures tables { IfOk result HasLastTables }
     ensures cores { IfOk result HasAllCores }
 {
-    let mut machine = OneCore::new(alloc, image.config, &start_of(image))?;
+    let mut machine = OneCore::new(alloc, image)?;
     let logs = Vec::with_capacity(alloc, 1)?;
     let answers = Vec::with_capacity(alloc, 1)?;
     machine.run(lines_of(&script));

@@ -1,7 +1,7 @@
 //! What a run leaves beside the lines of its report: DRAM, answers, and what an interrupted thread saved.
 
 ghost use Rattle.std.specs.Prelude.{◌≡◌, ◌≤◌, ◌+◌, length, IfOk};
-ghost use Rattle.solo.specs.Given.{IsBareImage, IsOneScript};
+ghost use Rattle.solo.specs.Given.{IsOneImage, IsOneScript};
 
 use crate::solo;
 use hist::{Event, Finished};
@@ -11,7 +11,7 @@ use std::process::Abort;
 use std::test::Fail;
 
 /// A small enclave in slot 0 as far as its page: tables in pages 2 to 4, and a copy of page 1 in page 5.
-const LOADED: [Line; 18] = [
+pub const LOADED: [Line; 18] = [
     Line::Make(Call::Block { r: 2 }),
     Line::Make(Call::Block { r: 3 }),
     Line::Make(Call::Block { r: 4 }),
@@ -57,18 +57,18 @@ const LOADED: [Line; 18] = [
     }),
 ];
 
-const THREAD: Call = Call::LoadThread {
+pub const THREAD: Call = Call::LoadThread {
     e: 0,
     t: 0,
     entry: 65536,
     sp: 77,
 };
 
-const ENTER: Call = Call::Enter { e: 0, t: 0 };
+pub const ENTER: Call = Call::Enter { e: 0, t: 0 };
 
 /// A machine with one core and 16 regions of one page.
-fn image(alloc: Global) -> Result<Image, AllocError>
-    ensures { IfOk result IsBareImage }
+pub fn image(alloc: Global) -> Result<Image, AllocError>
+    ensures { IfOk result IsOneImage }
 {
     let mut starts = Items::new(alloc);
     starts.push(Start {
@@ -82,12 +82,14 @@ fn image(alloc: Global) -> Result<Image, AllocError>
     })
 }
 
-/// The lines of `LOADED`, and these behind them.
-fn script(alloc: Global, more: &[Line]) -> Result<Script, AllocError>
-    requires { length more.now ≤ 1000 }
+/// Some lines, the lines of `LOADED`, and others behind them.
+pub fn script(alloc: Global, first: &[Line], more: &[Line]) -> Result<Script, AllocError>
+    requires first { length first.now ≤ 1000 }
+    requires more { length more.now ≤ 1000 }
     ensures { IfOk result (λ s. IsOneScript s.cores) }
 {
-    let mut lines = Vec::from_slice(alloc, &LOADED)?;
+    let mut lines = Vec::from_slice(alloc, first)?;
+    lines.extend_from_slice(&LOADED)?;
     lines.extend_from_slice(more)?;
     let mut cores = Items::new(alloc);
     cores.push(Items::from_vec(lines))?;
@@ -98,11 +100,11 @@ fn script(alloc: Global, more: &[Line]) -> Result<Script, AllocError>
 fn run(alloc: Global, more: &[Line]) -> Result<Finished, AllocError>
     requires { length more.now ≤ 1000 }
 {
-    solo(alloc, &image(alloc)?, script(alloc, more)?)
+    solo(alloc, &image(alloc)?, script(alloc, &[], more)?)
 }
 
 /// The event at a place of the core's log.
-fn event(finished: &Finished, place: usize) -> Option<Event> {
+pub fn event(finished: &Finished, place: usize) -> Option<Event> {
     finished
         .logs
         .as_slice()
@@ -113,7 +115,7 @@ fn event(finished: &Finished, place: usize) -> Option<Event> {
 }
 
 /// Compares words of DRAM.
-fn expect_words(rt: &impl Abort, finished: &Finished, words: &[(usize, u64)]) {
+pub fn expect_words(rt: &impl Abort, finished: &Finished, words: &[(usize, u64)]) {
     for (place, word) in words {
         assert_eq!(rt;
             finished.words.as_slice().get(*place).copied(),
