@@ -1,0 +1,12 @@
+pub mod Machines
+pub mod Entries
+pub mod Starts
+pub mod Scripts
+pub mod Exits
+pub mod GuestCalls
+pub mod Accesses
+pub mod Walks
+pub mod Cache
+pub mod Causes
+pub mod Words
+pub mod Budgets
