@@ -1,5 +1,12 @@
+pub mod Told
+pub mod Same
+pub mod Sound
 pub mod Ends
-pub mod Answered
+pub mod Imaged
 pub mod Packed
+pub mod Traced
+pub mod Scripted
+pub mod Ran
+pub mod Reported
 pub mod Pairs
 pub mod PackedImage

@@ -1,5 +1,13 @@
+pub mod Commands
 pub mod Words
 pub mod Packing
+pub mod Sources
+pub mod Runs
+pub mod Traces
+pub mod Headline
+pub mod Outputs
 pub mod Codes
 pub mod Faults
-pub mod Headline
+pub mod Refused
+pub mod Causes
+pub mod Answers

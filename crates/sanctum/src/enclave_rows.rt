@@ -1,18 +1,19 @@
 //! The worked rows of enclaves, mail and offers that a script on the plain machine can show, each by its
-//! name, and rows of the same kind that are this project's own.
-//!
-//! A text of rows has one part for each row; an empty line ends it. A row's first line says with how many
-//! calls of `LOADED` it begins, and its name. The lines that follow are lines of its script, each with what
-//! the report says of its call: `LINE = REPLY tried OBJECTS`, where the call is printed as it was written,
-//! else `LINE > CALL = REPLY tried OBJECTS`; `LINE >` makes no call. Behind ` # ` may stand why. Lines at the
-//! end that begin with `: ` are lines of the report's tables. Measurements and digests are those of another
-//! program, which hashes as the monitor's rules say; replies and tried objects are worked out by those rules.
+//! name, and rows of the same kind that are this project's own, written as `rows` says. Measurements and
+//! digests are those of another program, which hashes as the monitor's rules say; replies and tried objects
+//! are worked out by those rules.
 
-use crate::tests::{HEAD, run};
-use std::alloc::{AllocError, Global};
-use std::process::Abort;
+use crate::rows::{Bench, check_rows};
+use crate::tests::HEAD;
 use std::test::Fail;
-use std::thread::Threads;
+
+/// The plain machine, by each command that has it.
+pub const PLAIN: Bench = Bench {
+    commands: &[&["script", "S"], &["run", "-", "S"], &["solo", "-", "S"]],
+    image: "",
+    head: HEAD,
+    loaded: LOADED,
+};
 
 /// An enclave in slot 0, which is ready to be entered at ticket 20; the digest is that of a page of zeros.
 const LOADED: &str = "\
@@ -274,116 +275,12 @@ tick > aex 65540 0 4096 0 0 0 0 0 0 0 1 0 0 0 0 0 0 0 0 0 0 0 0 0 0 0 0 0 0 0 0 
 : core 0 os flushed 5
 ";
 
-/// The script of a row, and what its report says of the calls and of the log.
-#[derive(Drop)]
-struct Row {
-    script: String,
-    calls: String,
-    entries: String,
-    made: u32,
-}
-
-impl Row {
-    fn new(alloc: Global) -> Row {
-        Row {
-            script: String::new(alloc),
-            calls: String::new(alloc),
-            entries: String::new(alloc),
-            made: 0,
-        }
-    }
-
-    /// Adds a line of a row.
-    fn add(&mut self, alloc: Global, line: &str) -> Result<(), AllocError> {
-        let line = match line.split_once(" # ") {
-            Some((line, _why)) => line,
-            None => line,
-        };
-        if let Some((script, printed)) = line.split_once(" >") {
-            self.add_line(script)?;
-            match printed.strip_prefix(' ') {
-                Some(call) => self.add_call(alloc, call),
-                None => Ok(()),
-            }
-        } else if let Some((script, _)) = line.split_once(" = ") {
-            self.add_line(script)?;
-            self.add_call(alloc, line)
-        } else {
-            Ok(())
-        }
-    }
-
-    fn add_line(&mut self, line: &str) -> Result<(), AllocError> {
-        self.script.push_str(line)?;
-        self.script.push('\n')
-    }
-
-    fn add_call(&mut self, alloc: Global, call: &str) -> Result<(), AllocError> {
-        let serial = self.made;
-        self.made = serial.saturating_add(1);
-        let ticket = self.made;
-        let line = format!(in alloc; "call {ticket} core 0 serial {serial} {call}\n")?;
-        self.calls.push_str(&line)?;
-        let entry = format!(in alloc; "entry {ticket}\n")?;
-        self.entries.push_str(&entry)
-    }
-}
-
-/// Runs the script of a row, and compares the report with what the row says.
-fn check_row<R: Threads + Sync + Abort>(rt: &R, alloc: Global, row: &str) -> Result<(), Fail> {
-    let (head, lines) = row.split_once('\n').ok_or("a row without lines")?;
-    let (begin, name) = head.split_once(' ').ok_or("a row without a name")?;
-    let mut want = Row::new(alloc);
-    for line in LOADED.lines().take(begin.parse()?) {
-        want.add(alloc, line)?;
-    }
-    for line in lines.lines() {
-        want.add(alloc, line)?;
-    }
-    let (status, out) = run(rt, alloc, &["script", "S"], want.script.as_bytes(), &[])?;
-    assert_eq!(rt; status.code(), 0, "{name}");
-    let text = str::from_utf8(out.as_slice())?;
-    let (calls, entries) = (want.calls.as_str(), want.entries.as_str());
-    let told = format!(in alloc; "{HEAD}{calls}log 0\n{entries}region 0 ")?;
-    assert!(rt;
-        text.starts_with(told.as_str()),
-        "{name}: not {told} but {text}"
-    );
-    check_tables(rt, lines, text);
-    Ok(())
-}
-
-/// Checks that the report has the lines of the tables that the row says.
-fn check_tables(rt: &impl Abort, lines: &str, text: &str) {
-    for line in lines.lines() {
-        if let Some(("", table)) = line.split_once(": ") {
-            assert!(rt; has_line(text, table), "no {table} in {text}");
-        }
-    }
-}
-
-fn has_line(text: &str, line: &str) -> bool {
-    text.lines().any(|other| other == line)
-}
-
-/// Checks every row of a text.
-pub fn check_rows<R: Threads + Sync + Abort>(
-    rt: &R,
-    alloc: Global,
-    rows: &str,
-) -> Result<(), Fail> {
-    for row in rows.split("\n\n") {
-        check_row(rt, alloc, row)?;
-    }
-    Ok(())
-}
-
 #[test]
 fn worked_rows(rt: HostRuntime) -> Result<(), Fail> {
-    check_rows(&rt, rt.alloc(), ROWS)
+    check_rows(&rt, rt.alloc(), &PLAIN, ROWS)
 }
 
 #[test]
 fn rows_of_mail_threads_offers_and_ticks(rt: HostRuntime) -> Result<(), Fail> {
-    check_rows(&rt, rt.alloc(), OWN_ROWS)
+    check_rows(&rt, rt.alloc(), &PLAIN, OWN_ROWS)
 }

@@ -23,10 +23,12 @@ block 18446744073709551616 | bad number
 reg 32 0 | bad number
 reg 0 0 | bad number
 pc 2 | bad number
-run 1 | not built
-load 0 | not built
-store 0 0 | not built
-core 0 | not built
+run | missing word
+run 4294967296 | turns over
+load 0 0 | extra word
+store 0 | missing word
+core 16 | bad core
+run 1000001 | turns over
 ";
 
 /// The same of assembler texts.
@@ -85,7 +87,7 @@ fn each_kind_of_assembler_fault_at_its_line(rt: HostRuntime) -> Result<(), Fail>
     Ok(())
 }
 
-/// The three cases of row `usage`, and numbers that are no line of the table.
+/// The three cases of row `usage`, and other words that are no line of the table.
 #[test]
 fn usage(rt: HostRuntime) -> Result<(), Fail> {
     let alloc = rt.alloc();
@@ -95,6 +97,11 @@ fn usage(rt: HostRuntime) -> Result<(), Fail> {
         &["load", "1", "17"],
         &["script"],
         &["script", "S", "S"],
+        &["run", "-", "S", "S"],
+        &["solo", "S"],
+        &["convert"],
+        &["convert", "-", "-"],
+        &["llc", "S", "S"],
         &["--version"],
         &["pack", "S", "1", "8", "1", "1"],
         &["pack", "S", "1", "8", "1", "0", "0"],

@@ -2,10 +2,12 @@
 
 ghost use Rattle.std.specs.Prelude.{◌≡◌, ◌≤◌, ◌+◌, ◌++◌, length};
 ghost use Rattle.sm_ports.specs.Causes.{Rose};
-ghost use Rattle.sanctum.specs.Headline.{IsRefusal, Prints};
-ghost use Rattle.sanctum.specs.Faults.{kind_text, script_line_text, turns_over_text, not_built_text, script_fault_line, asm_kind_text, asm_line_text, asm_fault_line, fault_line};
+ghost use Rattle.sanctum.specs.Answers.{IsRefusal, Prints};
+ghost use Rattle.sanctum.specs.Faults.{numbered_line, image_fault_line, trace_fault_line, kind_text, script_line_text, turns_over_text, not_built_text, script_fault_line, asm_kind_text, asm_line_text, asm_fault_line, fault_line};
 
 use crate::status::Status;
+use image_read::ImageFault;
+use llc::TraceFault;
 use rv_asm::{AsmFault, AsmKind};
 use script_read::{LineKind, ScriptFault};
 use sm_ports::Sink;
@@ -19,6 +21,40 @@ fn line_with(text: &str) -> Line
     let mut line = Line::new();
     line.text(text);
     line
+}
+
+/// A line that ends with a number.
+#[tactic(auto, unfolding(crate::specs::Faults::numbered_line))]
+fn line_numbered(front: &str, number: u32) -> Line
+    requires { length front.now ≤ 100 }
+    ensures { result ≡ numbered_line front.now number }
+{
+    let mut line = Line::new();
+    line.text(front);
+    line.number(u64::from(number));
+    line.text("\n");
+    line
+}
+
+#[tactic(auto, unfolding(crate::specs::Faults::image_fault_line))]
+fn line_of_image_fault(fault: &ImageFault) -> Line
+    ensures { result ≡ image_fault_line fault.now }
+{
+    match fault {
+        ImageFault::BadMagic => line_with("refused: image bad magic\n"),
+        ImageFault::BadVersion => line_with("refused: image bad version\n"),
+        ImageFault::BadField { at } => line_numbered("refused: image bad field at ", *at),
+        ImageFault::Short { at } => line_numbered("refused: image short at ", *at),
+        ImageFault::OutOfRange { segment } => {
+            line_numbered("refused: image out of range segment ", *segment)
+        }
+        ImageFault::Overlap { segment } => {
+            line_numbered("refused: image overlap segment ", *segment)
+        }
+        ImageFault::BadDigest { at } => line_numbered("refused: image bad digest at ", *at),
+        ImageFault::Trailing { at } => line_numbered("refused: image trailing at ", *at),
+        ImageFault::TooLong => line_with("refused: image too long\n"),
+    }
 }
 
 /// What is wrong with a line of a script.
@@ -110,6 +146,16 @@ fn line_of_asm_fault(fault: &AsmFault) -> Line
     line_of_asm(fault.line, asm_kind_name(fault.kind))
 }
 
+#[tactic(auto, unfolding(crate::specs::Faults::trace_fault_line))]
+fn line_of_trace_fault(fault: &TraceFault) -> Line
+    ensures { result ≡ trace_fault_line fault.now }
+{
+    match fault {
+        TraceFault::TooLong => line_with("refused: trace too long\n"),
+        TraceFault::BadLine { line } => line_numbered("refused: trace line ", *line),
+    }
+}
+
 /// The line that is printed for an answer; there is none for Ok and for a write fault.
 #[tactic(auto, unfolding(crate::specs::Faults::fault_line))]
 pub fn line_of(status: &Status) -> Line
@@ -118,10 +164,12 @@ pub fn line_of(status: &Status) -> Line
     match status {
         Status::Ok | Status::WriteFault => Line::new(),
         Status::Usage => line_with("refused: usage\n"),
+        Status::ImageRefused(fault) => line_of_image_fault(fault),
         Status::ScriptRefused(fault) => line_of_script_fault(fault),
         Status::ReadFault => line_with("refused: read fault\n"),
         Status::OutOfMemory => line_with("refused: out of memory\n"),
         Status::AsmRefused(fault) => line_of_asm_fault(fault),
+        Status::TraceRefused(fault) => line_of_trace_fault(fault),
     }
 }
 

@@ -93,6 +93,41 @@ load_thread 0 0 65536 0
 init 0
 ";
 
+/// Row `reserved-page`: page 12 is reserved, and stored to once the enclave has accepted its region.
+const RESERVED: &str = "\
+block 2
+block 3
+block 4
+block 5
+flush
+free 2
+free 3
+free 4
+free 5
+create 0 65536 16384
+assign 2 0
+assign 3 0
+assign 4 0
+assign 5 0
+load_table 0 0 2 2
+load_table 0 65536 1 3
+load_table 0 65536 0 4
+load_page 0 65536 5 1 5
+reserve 0 69632 12 3
+load_thread 0 0 65536 0
+init 0
+enter 0 0
+load 69632
+block 12
+flush
+free 12
+assign 12 0
+enter 0 0
+accept_region 12
+store 69632 7
+exit
+";
+
 /// Runs a script on a machine with one core whose memory holds zeros.
 fn run_on(
     rt: &impl Abort,
@@ -102,7 +137,7 @@ fn run_on(
 ) -> Result<Finished, Fail> {
     let config = config.ok_or("no such machine")?;
     assert!(rt; config.cores() == 1);
-    let script = parse_script(alloc, script, None)?;
+    let script = parse_script(alloc, script, Some(1))?;
     let mut starts = Items::new(alloc);
     starts.push(Start {
         pc: 0x8000_0000,
@@ -158,6 +193,21 @@ fn twins_have_one_measurement(rt: HostRuntime) -> Result<(), Fail> {
     ];
     check(&rt, finished.words.as_slice(), &stored);
     assert_eq!(rt; answers(&finished).len(), 1036);
+    Ok(())
+}
+
+#[test]
+fn a_reserved_page_is_stored_to(rt: HostRuntime) -> Result<(), Fail> {
+    let config = Config::new(1, 16, 1, 0);
+    let finished = run_on(&rt, rt.alloc(), config, RESERVED.as_bytes())?;
+    let stored = [
+        (1024, 0x2000_0c01),
+        (1536, 0x2000_1001),
+        (2064, 0x2000_14db),
+        (2065, 0x2000_30d7),
+        (6144, 7),
+    ];
+    check(&rt, finished.words.as_slice(), &stored);
     Ok(())
 }
 

@@ -1,16 +1,20 @@
-//! The program: runs scripts on the machine and prints what happened as one legal history, and makes
-//! images from assembler texts.
+//! The program: runs scripts on the machine and prints what happened as one legal history, makes images from
+//! assembler texts, writes images anew, and counts the hits of a coloured cache.
 #![tactic(auto)]
 
-ghost use Rattle.sanctum.specs.Headline.{IsRefusal};
+ghost use Rattle.sanctum.specs.Answers.{IsRefusal};
 
+mod convert;
 mod faults;
 mod image;
+mod orders;
+mod output;
 mod pack;
-mod plain;
 mod run;
+mod sources;
 mod status;
 mod top;
+mod trace;
 mod words;
 
 use faults::refuse;
@@ -59,8 +63,16 @@ mod enclave_rows;
 #[cfg(test)]
 mod fault_rows;
 #[cfg(test)]
+mod guest_rows;
+#[cfg(test)]
+mod image_rows;
+#[cfg(test)]
 mod machine_rows;
 #[cfg(test)]
 mod refusal_rows;
 #[cfg(test)]
+mod rows;
+#[cfg(test)]
 mod tests;
+#[cfg(test)]
+mod trace_rows;

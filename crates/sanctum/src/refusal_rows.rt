@@ -1,7 +1,8 @@
-//! Rows of refusals, written as `enclave_rows` says: how loads are refused until all is there, the last
+//! Rows of refusals, written as `rows` says: how loads are refused until all is there, the last
 //! value and the first beyond it of each argument, and who may make which call.
 
-use crate::enclave_rows::check_rows;
+use crate::enclave_rows::PLAIN;
+use crate::rows::check_rows;
 use std::test::Fail;
 
 /// Pages, tables and reserved pages.
@@ -225,10 +226,10 @@ ecall 0 > ecall 0 0 0 0 0 0 0 = unsupported tried
 
 #[test]
 fn loads_are_refused(rt: HostRuntime) -> Result<(), Fail> {
-    check_rows(&rt, rt.alloc(), LOADS)
+    check_rows(&rt, rt.alloc(), &PLAIN, LOADS)
 }
 
 #[test]
 fn values_out_of_range_are_refused(rt: HostRuntime) -> Result<(), Fail> {
-    check_rows(&rt, rt.alloc(), BOUNDS)
+    check_rows(&rt, rt.alloc(), &PLAIN, BOUNDS)
 }

@@ -62,14 +62,39 @@ pub fn words_of(alloc: Global, words: &[&str]) -> Result<Vec<String>, AllocError
     Ok(list)
 }
 
-/// One file, of the name "S".
-fn file_of(alloc: Global, bytes: &[u8]) -> Result<Vec<(String, Vec<u8>)>, AllocError> {
-    let mut files = Vec::new(alloc);
-    files.push((
-        String::from_str(alloc, "S")?,
-        Vec::from_slice(alloc, bytes)?,
-    ))?;
-    Ok(files)
+/// Files in memory for one run, and which calls of the depot and of the sink fail.
+#[derive(Clone, Copy)]
+pub struct Files<'a> {
+    /// The file "S".
+    pub script: &'a [u8],
+    /// The file "I".
+    pub image: &'a [u8],
+    pub failing_reads: &'a [u32],
+    pub failing_puts: &'a [u32],
+}
+
+impl<'a> Files<'a> {
+    /// Files of which nothing fails.
+    pub fn of_script(script: &'a [u8], image: &'a [u8]) -> Files<'a> {
+        Files {
+            script,
+            image,
+            failing_reads: &[],
+            failing_puts: &[],
+        }
+    }
+
+    /// The files by their names.
+    fn named(&self, alloc: Global) -> Result<Vec<(String, Vec<u8>)>, AllocError> {
+        let mut files = Vec::new(alloc);
+        for (name, bytes) in [("S", self.script), ("I", self.image)] {
+            files.push((
+                String::from_str(alloc, name)?,
+                Vec::from_slice(alloc, bytes)?,
+            ))?;
+        }
+        Ok(files)
+    }
 }
 
 /// A text over and over.
@@ -81,7 +106,22 @@ pub fn repeated(alloc: Global, text: &str, times: u32) -> Result<Vec<u8>, AllocE
     Ok(bytes)
 }
 
-/// Runs the words over one file, and a sink that fails the listed calls.
+/// Runs the words over files.
+pub fn run_files<R: Threads + Sync>(
+    rt: &R,
+    alloc: Global,
+    words: &[&str],
+    files: &Files<'_>,
+) -> Result<(Status, VecSink), AllocError> {
+    let reads = Vec::from_slice(alloc, files.failing_reads)?;
+    let mut depot = MapDepot::new(files.named(alloc)?, reads);
+    let mut out = VecSink::new(alloc, ROOM, Vec::from_slice(alloc, files.failing_puts)?)?;
+    let words = words_of(alloc, words)?;
+    let status = sanctum(rt, alloc, &words, &mut depot, &mut out, &OpenGate);
+    Ok((status, out))
+}
+
+/// Runs the words over one file, of the name "S", and a sink that fails the listed calls.
 pub fn run<R: Threads + Sync>(
     rt: &R,
     alloc: Global,
@@ -89,11 +129,13 @@ pub fn run<R: Threads + Sync>(
     file: &[u8],
     fails: &[u32],
 ) -> Result<(Status, VecSink), AllocError> {
-    let mut depot = MapDepot::new(file_of(alloc, file)?, Vec::new(alloc));
-    let mut out = VecSink::new(alloc, ROOM, Vec::from_slice(alloc, fails)?)?;
-    let words = words_of(alloc, words)?;
-    let status = sanctum(rt, alloc, &words, &mut depot, &mut out, &OpenGate);
-    Ok((status, out))
+    let files = Files {
+        script: file,
+        image: &[],
+        failing_reads: &[],
+        failing_puts: fails,
+    };
+    run_files(rt, alloc, words, &files)
 }
 
 #[test]
@@ -157,7 +199,7 @@ fn rows_with_a_refusal(rt: HostRuntime) -> Result<(), Fail> {
             &["script", "S"],
             b"run 1000000\nrun 1",
             4,
-            "refused: script line 1 not built\n",
+            "refused: script line 2 turns over\n",
         ),
         (
             "pack-three",
@@ -337,13 +379,17 @@ fn other_depots_and_sinks(rt: HostRuntime) -> Result<(), Fail> {
     let alloc = rt.alloc();
     let words = words_of(alloc, &["script", "S"])?;
     let none = Vec::new(alloc);
-    let mut depot = DripDepot::new(file_of(alloc, FIRST.as_bytes())?, none, 1);
+    let mut depot = DripDepot::new(
+        Files::of_script(FIRST.as_bytes(), b"").named(alloc)?,
+        none,
+        1,
+    );
     let mut out = DripSink::new(alloc, ROOM, Vec::new(alloc), 1)?;
     let status = sanctum(&rt, alloc, &words, &mut depot, &mut out, &OpenGate);
     assert_eq!(rt; status.code(), 0, "drip");
     assert_eq!(rt; out.as_slice(), FIRST_REPORT.as_bytes(), "drip");
 
-    let mut still = StillDepot::new(file_of(alloc, b"")?);
+    let mut still = StillDepot::new(Files::of_script(b"", b"").named(alloc)?);
     let mut sink = StillSink::new(alloc)?;
     let status = sanctum(&rt, alloc, &words, &mut still, &mut sink, &OpenGate);
     let want = format!(in alloc; "{HEAD}log 0\n{TABLES}")?;
