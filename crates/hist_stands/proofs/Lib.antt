@@ -1,0 +1,22 @@
+pub mod Anys
+pub mod Entries
+pub mod Tickets
+pub mod Owns
+pub mod Knowing
+pub mod Living
+pub mod Cuts
+pub mod Begun
+pub mod Touches
+pub mod Holding
+pub mod Stamps
+pub mod Grows
+pub mod Sorted
+pub mod Serials
+pub mod Noting
+pub mod Drawing
+pub mod Busied
+mod ByHand
+pub mod Listed
+pub mod Alike
+pub mod Counts
+pub mod InSets

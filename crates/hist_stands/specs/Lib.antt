@@ -1,0 +1,10 @@
+pub mod States
+pub mod Stamp
+pub mod Stands
+pub mod Known
+pub mod Life
+pub mod Held
+pub mod Found
+pub mod Laws
+pub mod Runs
+pub mod Fields
