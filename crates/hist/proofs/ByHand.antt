@@ -1,5 +1,5 @@
 -- What the runs that are written out by hand need again and again.
-use Rattle.std.proofs.Common.{◌≡◌, ℕ, zero, suc, ◌<◌, ◌≤◌, ◌⊎◌, List, [], ◌∷◌, ◌++◌, inl, inr, ap, arith}
+use Rattle.std.proofs.Common.{◌≡◌, ◌≤◌, ◌⊎◌, List, [], ◌∷◌, ◌++◌, inl, inr, ap, arith}
 use Rattle.std.specs.Prelude.{Contains}
 use Rattle.mon_types.specs.declared.object.ObjectId.{ObjectId}
 use Rattle.mon_types.specs.declared.object.ObjectId.TheVariants as objects
@@ -7,17 +7,6 @@ use Rattle.mon_types.specs.declared.object.Tried.{Tried}
 use Rattle.mon_model.specs.Tries.{tried_set}
 use Rattle.hist.specs.Busy.{TriedUpTo}
 use Rattle.mon_model.specs.Examples.{r3}
-
--- ---- each core of one or two
-
-pub by_one : (P : ℕ → Type 0) → P 0 → (core : ℕ) → core < 1 → P core
-by_one P first zero lt = first
-by_one P first (suc core) lt = absurd (omega arith)
-
-pub by_two : (P : ℕ → Type 0) → P 0 → P 1 → (core : ℕ) → core < 2 → P core
-by_two P first second zero lt = first
-by_two P first second (suc zero) lt = second
-by_two P first second (suc (suc core)) lt = absurd (omega arith)
 
 -- ---- locks
 

@@ -8,5 +8,7 @@ pub mod Lawful
 pub mod Parts
 pub mod Measured
 pub mod Growing
+pub mod Anys
+pub mod Owns
 pub mod Touching
-mod ByHand
+pub mod ByHand

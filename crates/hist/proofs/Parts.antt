@@ -13,6 +13,7 @@ use Rattle.hist.specs.Busy.{own}
 use Rattle.hist.proofs.Ordered.{all_weaker, AreAbove, placed_first, joined, joined_map}
 use Rattle.hist.proofs.Ascending.{all_placed}
 use Rattle.hist.proofs.Lawful.{own_above, own_core}
+use Rattle.hist.proofs.Owns.{own_all}
 
 -- ---- a list in ticket order
 
@@ -36,11 +37,6 @@ order_rises [] = tt
 order_rises (e ∷ es) = placed_rises e (in_ticket_order es) (order_rises es)
 
 -- ---- a core's entries among them
-
-own_all : (P : Entry → Type 0) (core : ℕ) (es : List Entry) → AllByRecursion P es → AllByRecursion P (own core es)
-own_all P core [] all = tt
-own_all P core (e ∷ es) all =
-    elim (e.core == core) as (λ b. AllByRecursion P (if b then e ∷ own core es else own core es)) [ true ↦ (all.0, own_all P core es all.1) | false ↦ own_all P core es all.1 ]
 
 own_placed : (core : ℕ) (e : Entry) (es : List Entry) → Rises es → own core (placed e es) ≡ (if e.core == core then placed e (own core es) else own core es)
 own_placed core e [] rises = refl

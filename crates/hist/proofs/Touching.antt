@@ -1,23 +1,15 @@
 -- The walk over a log that tells which periods are touched, against looking back from a touch.
-use Rattle.std.proofs.Common.{◌≡◌, ℕ, zero, suc, ◌⊎◌, Bool, true, false, ◌==◌, ◌&&◌, ◌||◌, if◌then◌else◌, List, [], ◌∷◌, refl, sym, ap, subst, ◌∙◌, inl, inr, arith}
+use Rattle.std.proofs.Common.{◌≡◌, ℕ, ◌⊎◌, Bool, true, false, ◌==◌, ◌&&◌, ◌||◌, if◌then◌else◌, List, [], ◌∷◌, refl, ap, ◌∙◌, inl, inr}
 use Rattle.std.specs.Prelude.{Any, fold}
 use Rattle.std.proofs.lemmas.Bool.{eq-eqb, eqb-true, and_parts}
 use Rattle.mon_types.specs.Replies.{is_done}
 use Rattle.mon_model.specs.OnCore.{clears}
-use Rattle.hist.specs.declared.event.Entry.{Entry}
 use Rattle.hist.specs.declared.event.Event.{Event}
 use Rattle.hist.specs.declared.event.Event.TheVariants as events
 use Rattle.hist.specs.History.{entries_of}
 use Rattle.hist.specs.Touched.{touched_by, is_touched}
 use Rattle.hist.specs.SafeLog.{IsClearing, ClearedSince}
-
--- ---- one of some entries
-
-pub any_here : (P : Entry → Type 0) (e : Entry) (es : List Entry) → P e → Any P (e ∷ es)
-any_here P e es is = (0, e, omega arith, refl, is)
-
-pub any_later : (P : Entry → Type 0) (e : Entry) (es : List Entry) → Any P es → Any P (e ∷ es)
-any_later P e es is = (suc is.0, is.1, omega (arith, is.2), is.3, is.4)
+use Rattle.hist.proofs.Anys.{any_here, any_later, any_none, first_or_later}
 
 -- ---- equal touches
 
@@ -64,14 +56,6 @@ touch_is q b r a is =
     let two : b ≡ a = eqb-true b a parts.1 in
     λ i. events.Touch (one i) (two i)
 
--- a clearing entry is not in the empty list; one in a list is the first or later
-any_cases : (P : Entry → Type 0) (e : Entry) (es : List Entry) → Any P (e ∷ es) → P e ⊎ Any P es
-any_cases P e es (zero, x, lt, is, holds) = inl (subst P (sym is) holds)
-any_cases P e es (suc i, x, lt, is, holds) = inr (i, x, omega (arith, lt), is, holds)
-
-any_none : (P : Entry → Type 0) → Any P [] → ⊥
-any_none P is = omega (arith, is.2)
-
 untouched_from : (r a : ℕ) (log : List Event) (touched : Bool) → ClearedSince (events.Touch r a) log → (touched ≡ true → Any IsClearing (entries_of log))
     → fold (touched_by r a) touched log ≡ false
 untouched_from r a [] true cleared later = absurd (any_none IsClearing (later refl))
@@ -85,7 +69,7 @@ untouched_from r a (events.Entry e ∷ log) touched cleared later =
 
     by : (b : Bool) → is_done e.reply && clears e.call ≡ b → (if b then false else touched) ≡ true → Any IsClearing (entries_of log)
     by true clearing is = absurd (cc)
-    by false none is = behind none (any_cases IsClearing e (entries_of log) (later is))
+    by false none is = behind none (first_or_later IsClearing e (entries_of log) (later is))
 untouched_from r a (events.Touch q b ∷ log) touched cleared later =
     untouched_from r a log ((q == r && b == a) || touched) cleared.1 (by (q == r && b == a) refl)
   where

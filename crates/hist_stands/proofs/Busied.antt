@@ -1,5 +1,5 @@
 -- What is noted of refusals gives `Busy`, also while calls are under way.
-use Rattle.std.proofs.Common.{◌≡◌, ℕ, suc, ◌+◌, ◌-◌, ◌<◌, ◌≤◌, List, [], ◌∷◌, ◌++◌, length, take, None, sym, ap, subst, ◌∙◌, arith}
+use Rattle.std.proofs.Common.{◌≡◌, ℕ, suc, ◌+◌, ◌-◌, ◌<◌, ◌≤◌, List, [], ◌∷◌, ◌++◌, length, take, sym, ap, subst, ◌∙◌, arith}
 use Rattle.std.specs.Prelude.{IfSome}
 use Rattle.std.proofs.lemmas.List.{take_all}
 use Rattle.mon_types.specs.Shape.{Shape}
@@ -13,10 +13,10 @@ use Rattle.hist.specs.History.{history}
 use Rattle.hist.specs.Legal.{AreOwn}
 use Rattle.hist.specs.Busy.{own, call_with_serial, call_before, UnderWay, Nothing, Taking, Refused, as_entry, TriedUpTo, TriesUpTo, MetHeldLock, IsRightlyBusy, AreRightlyBusy, Busy}
 use Rattle.hist.proofs.Ordered.{all_weaker}
+use Rattle.hist.proofs.Anys.{any_is, any_own}
 use Rattle.hist_stands.specs.States.{state_now}
 use Rattle.hist_stands.specs.Stands.{Stands, all_logs}
 use Rattle.hist_stands.specs.Found.{Found, IsNoted, IsCallNoted, Notes, IsPlanned}
-use Rattle.hist_stands.proofs.Anys.{any_is, any_own}
 use Rattle.hist_stands.proofs.Serials.{CallOf, call_of, was_drawn, drawn_since, if_call, if_before}
 use Rattle.hist_stands.proofs.Sorted.{same_history}
 
@@ -66,16 +66,7 @@ module _ (shape : Shape) (h : List Entry) (log : ℕ → List Event) (stands : S
       let all : h ≡ take (length h + 1 - 1) h = sym (take_all (length h + 1 - 1) h (omega arith)) in
       let tried = subst (λ (es : List Entry). TriedUpTo lock (tries (state_now shape es) core call)
       (tried_set (taken ++ lock ∷ []))) all planned in (
-        met_held_lock
-            (record {
-              ticket = length h + 1;
-              core = core;
-              serial = length (own core h);
-              call = call;
-              page = None;
-              reply = replies.ConcurrentCall lock holder serial;
-              tried = tried_set (taken ++ lock ∷ []);
-            }) lock holder serial noted.0 (omega (arith, noted.1.drawn)) tried noted.1,
+        met_held_lock _ lock holder serial noted.0 (omega (arith, noted.1.drawn)) tried noted.1,
         tt,
       )
 

@@ -1,8 +1,6 @@
 -- What the runs that are written out by hand need again and again.
 use Rattle.std.proofs.Common.{◌≡◌, ℕ, zero, suc, ◌<◌, ◌⊎◌, [], ◌∷◌, inl, inr, arith}
-use Rattle.std.specs.Prelude.{Contains}
 use Rattle.mon_types.specs.Shape.{plain}
-use Rattle.mon_types.specs.declared.object.ObjectId.{ObjectId}
 use Rattle.mon_types.specs.declared.region.Owner.TheVariants as owners
 use Rattle.mon_types.specs.declared.region.Region.TheVariants as regions
 use Rattle.mon_model.specs.State.{region_at, flushed_at}
@@ -11,24 +9,6 @@ use Rattle.hist.specs.Rows.{flushed, logged}
 use Rattle.hist_stands.specs.States.{state_now}
 use Rattle.hist_stands.specs.Stamp.{Stamp, IsStamped}
 use Rattle.hist_stands.specs.Runs.{blocked_and_flushed, moved_history}
-
--- ---- each core of one or two
-
-pub by_one : (P : ℕ → Type 0) → P 0 → (core : ℕ) → core < 1 → P core
-by_one P first zero lt = first
-by_one P first (suc core) lt = absurd (omega arith)
-
-pub by_two : (P : ℕ → Type 0) → P 0 → P 1 → (core : ℕ) → core < 2 → P core
-by_two P first second zero lt = first
-by_two P first second (suc zero) lt = second
-by_two P first second (suc (suc core)) lt = absurd (omega arith)
-
--- ---- locks
-
--- a core that has taken nothing holds no lock, unless an entry of its tells so
-pub not_held : (P Q : Type 0) (lock : ObjectId) → (P → ⊥) → P ⊎ (Q × Contains [] lock) → ⊥
-not_held P Q lock none (inl entry) = none entry
-not_held P Q lock none (inr alive) = omega (arith, alive.1.1)
 
 -- ---- touches without a stamp
 

@@ -16,17 +16,16 @@ use Rattle.hist.specs.declared.event.Event.{Event}
 use Rattle.hist.specs.Legal.{AreOwn}
 use Rattle.hist.specs.Busy.{own, call_with_serial, UnderWay, Nothing, Taking, Refused, taken_by, TriedUpTo, HasTaken, CallHasTaken}
 use Rattle.hist.proofs.Ordered.{all_weaker, all_joined}
-use Rattle.hist.proofs.Touching.{any_here, any_later}
+use Rattle.hist.proofs.Anys.{any_here, any_later, any_is, any_own}
+use Rattle.hist.proofs.Owns.{own_more, own_there}
 use Rattle.hist_stands.specs.States.{state_now}
 use Rattle.hist_stands.specs.Stands.{Stands}
 use Rattle.hist_stands.specs.Found.{Found, IsNoted, IsCallNoted, Notes, with_call, IsOfRefused, Draws}
-use Rattle.hist_stands.proofs.Anys.{any_is, any_own}
 use Rattle.hist_stands.proofs.Tickets.{length_more}
 use Rattle.hist_stands.proofs.Grows.{drawn_all}
 use Rattle.hist_stands.proofs.Serials.{call_of, serials_below}
-use Rattle.hist_stands.proofs.Owns.{own_more, own_there}
 
-some_or : (o p : Option Entry) (P : Entry → Type 0) → IsSomeAnd o P → IsSomeAnd (option_or o p) P
+pub some_or : (o p : Option Entry) (P : Entry → Type 0) → IsSomeAnd o P → IsSomeAnd (option_or o p) P
 some_or (Some x) p P is = is
 some_or None p P is = absurd is
 
@@ -45,7 +44,7 @@ module _ (shape : Shape) (h : List Entry) (log : ℕ → List Event) (stands : S
   pub mine_of : (core : ℕ) → core < shape.cores → AreOwn core 0 0 (own core h)
   mine_of core lt = subst (AreOwn core 0 0) (stands.mine core lt) (stands.serials core lt)
 
-  find_more : (core serial : ℕ)
+  pub find_more : (core serial : ℕ)
       → call_with_serial (h ++ x ∷ []) core serial
       ≡ option_or (call_with_serial h core serial) (if x.core == core && x.serial == serial then Some x else None)
   find_more core serial = find-append (λ y. y.core == core && y.serial == serial) h (x ∷ [])
@@ -60,7 +59,7 @@ module _ (shape : Shape) (h : List Entry) (log : ℕ → List Event) (stands : S
       omega (arith, low, call.is_serial)
 
   -- the holder's entry tells what its call had taken
-  drawn_held : (holder : ℕ) (lock : ObjectId) → holder < shape.cores → x.core ≡ holder
+  pub drawn_held : (holder : ℕ) (lock : ObjectId) → holder < shape.cores → x.core ≡ holder
       → Contains (taken_by (now holder)) lock
       → IsSomeAnd (call_with_serial (h ++ x ∷ []) holder (length (own holder h))) (HasTaken lock)
   drawn_held holder lock lt whose has =

@@ -18,12 +18,12 @@ use Rattle.hist.specs.SafeLog.{IsOpenTo}
 use Rattle.hist.specs.Busy.{own}
 use Rattle.hist.proofs.Growing.{tickets_more, legal_more}
 use Rattle.hist.proofs.Ordered.{all_weaker, all_joined}
+use Rattle.hist.proofs.Owns.{own_all, own_here, own_there}
 use Rattle.hist_stands.specs.States.{state_now}
 use Rattle.hist_stands.specs.Stamp.{IsStamped, AreStamped}
 use Rattle.hist_stands.specs.Stands.{Stands, with_event}
 use Rattle.hist_stands.proofs.Tickets.{tickets_below}
 use Rattle.hist_stands.proofs.Stamps.{stamps_more, stamps_behind, stamp_now}
-use Rattle.hist_stands.proofs.Owns.{own_all, own_here, own_there}
 
 pub start_stands : (shape : Shape) → Stands shape [] (λ core. [])
 start_stands shape = record {

@@ -26,12 +26,11 @@ use Rattle.hist.specs.Period.{is_end, is_freeing, ticket_after, period_with}
 use Rattle.hist.specs.Touched.{touched_by, is_touched}
 use Rattle.hist.specs.SafeLog.{IsClearing, IsFlush, mode_after, IsOpenTo}
 use Rattle.hist.specs.Busy.{own}
-use Rattle.hist.proofs.Touching.{any_here, any_later}
+use Rattle.hist.proofs.Anys.{any_here, any_later, any_none, first_or_later, any_weaker}
 use Rattle.hist_stands.specs.States.{state_now, state_at, IsHistory}
 use Rattle.hist_stands.specs.Stamp.{Stamp, AreStamped}
 use Rattle.hist_stands.specs.Life.{FlushedAfter, Life, Lasts, Ended, Freed}
 use Rattle.hist_stands.specs.Held.{IsHeld}
-use Rattle.hist_stands.proofs.Anys.{any_none, first_or_later, any_weaker}
 use Rattle.hist_stands.proofs.Entries.{mode_next}
 use Rattle.hist_stands.proofs.Knowing.{known_all}
 use Rattle.hist_stands.proofs.Cuts.{AtStamp, at_stamp, whole_again}

@@ -1,7 +1,5 @@
-pub mod Anys
 pub mod Entries
 pub mod Tickets
-pub mod Owns
 pub mod Knowing
 pub mod Living
 pub mod Cuts

@@ -13,12 +13,11 @@ use Rattle.hist.specs.declared.event.Entry.{Entry}
 use Rattle.hist.specs.History.{after_entry, after_entries}
 use Rattle.hist.specs.Busy.{own}
 use Rattle.hist.specs.Period.{was_initialized, is_end, is_freeing, ticket_after, owner_by}
-use Rattle.hist.proofs.Touching.{any_here}
 use Rattle.hist.proofs.Periods.{none_after}
+use Rattle.hist.proofs.Anys.{any_here, any_before, any_behind, any_all}
+use Rattle.hist.proofs.Owns.{own_all}
 use Rattle.hist_stands.specs.Life.{FlushedAfter, Life, Lasts, Ended, Freed}
-use Rattle.hist_stands.proofs.Anys.{any_before, any_behind, any_all}
 use Rattle.hist_stands.proofs.Entries.{cell_at, end_is_no_flush}
-use Rattle.hist_stands.proofs.Owns.{own_all}
 use Rattle.hist_stands.proofs.Tickets.{last_flush_below, length_more, up_to_this, still_none, still_some, now_some, not_ended}
 use Rattle.hist_stands.proofs.Knowing.{Next, GoesOn, below_next, step_next, region_next, walk}
 

@@ -12,10 +12,10 @@ use Rattle.hist.specs.declared.event.Entry.{Entry}
 use Rattle.hist.specs.declared.event.Event.{Event}
 use Rattle.hist.specs.Busy.{own, UnderWay, Nothing, Taking, Refused, taken_by, CallHasTaken}
 use Rattle.hist.proofs.Ordered.{all_weaker}
+use Rattle.hist.proofs.Owns.{own_all}
 use Rattle.hist_stands.specs.Stands.{Stands}
 use Rattle.hist_stands.specs.Found.{Found, IsNoted, IsCallNoted, Notes, with_call, Finds}
 use Rattle.hist_stands.proofs.Grows.{drawn_all}
-use Rattle.hist_stands.proofs.Owns.{own_all}
 
 -- ---- where another core has something else under way
 

@@ -10,12 +10,11 @@ use Rattle.hist.specs.declared.event.Entry.{Entry}
 use Rattle.hist.specs.Legal.{AreOwn}
 use Rattle.hist.specs.Busy.{own, call_with_serial, call_before}
 use Rattle.hist.proofs.Ordered.{all_weaker}
-use Rattle.hist.proofs.Touching.{any_here, any_later}
+use Rattle.hist.proofs.Anys.{any_here, any_later, any_is, any_own, any_either}
+use Rattle.hist.proofs.Owns.{own_all}
 use Rattle.hist_stands.specs.States.{IsHistory}
-use Rattle.hist_stands.proofs.Anys.{any_is, any_own, any_either}
 use Rattle.hist_stands.proofs.Tickets.{tickets_from}
 use Rattle.hist_stands.proofs.Cuts.{take_long, goes_at}
-use Rattle.hist_stands.proofs.Owns.{own_all}
 
 -- what is found stands in the list, and passes
 found_in : (test : Entry → Bool) (es : List Entry) (x : Entry) → find test es ≡ Some x

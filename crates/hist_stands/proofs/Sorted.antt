@@ -14,10 +14,10 @@ use Rattle.hist.specs.SafeLog.{AreSafe, SafeLog}
 use Rattle.hist.specs.Busy.{own}
 use Rattle.hist.proofs.Ordered.{all_joined, AreAbove, placed_first, joined, joined_map}
 use Rattle.hist.proofs.Ascending.{all_ordered}
+use Rattle.hist.proofs.Owns.{own_all}
 use Rattle.hist_stands.specs.Stands.{Stands, all_logs}
 use Rattle.hist_stands.proofs.Tickets.{tickets_from}
 use Rattle.hist_stands.proofs.Touches.{events_safe}
-use Rattle.hist_stands.proofs.Owns.{own_all}
 
 -- ---- an entry before others with greater tickets
 

@@ -22,16 +22,16 @@ use Rattle.hist.specs.SafeLog.{IsFlush, mode_after, IsOpenTo, IsSafeTouch, IsTou
 use Rattle.hist.specs.Busy.{own}
 use Rattle.hist.proofs.Ordered.{all_weaker}
 use Rattle.hist.proofs.Touching.{untouched_cleared}
+use Rattle.hist.proofs.Anys.{any_either, any_not, any_own, any_weaker}
+use Rattle.hist.proofs.Owns.{own_all}
 use Rattle.hist_stands.specs.States.{state_at, IsHistory}
 use Rattle.hist_stands.specs.Stamp.{Stamp, IsStamped, AreStamped}
 use Rattle.hist_stands.specs.Known.{OwnedSince}
 use Rattle.hist_stands.specs.Life.{FlushedAfter, Life, Lasts, Ended, Freed}
-use Rattle.hist_stands.proofs.Anys.{any_either, any_not, any_own, any_weaker}
 use Rattle.hist_stands.proofs.Tickets.{tickets_from, made_still}
 use Rattle.hist_stands.proofs.Knowing.{GoesOn, below_next, walk}
 use Rattle.hist_stands.proofs.Living.{life_all}
 use Rattle.hist_stands.proofs.Cuts.{AtStamp, at_stamp, whole_again}
-use Rattle.hist_stands.proofs.Owns.{own_all}
 
 -- two lists cut at one ticket are cut alike
 cut_alike : (k : ℕ) (xs ys us vs : List Entry) → AllByRecursion (λ e. e.ticket ≤ k) xs

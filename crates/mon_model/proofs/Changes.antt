@@ -30,8 +30,8 @@ use Rattle.mon_model.proofs.Tried.{own_in, own_alone, behind_own, freed_in, rece
 
 -- ---- one change, and one after the other
 
-nothing : (s : State) (core : ℕ) (tried : List ObjectId) → ChangesOnly s s core tried
-nothing s core tried = record {
+pub changes_nothing : (s : State) (core : ℕ) (tried : List ObjectId) → ChangesOnly s s core tried
+changes_nothing s core tried = record {
   shape = refl;
   region = λ j h. refl;
   enclave = λ j h. refl;
@@ -136,7 +136,7 @@ assign_changes false s core r to x y z =
     both s _ _ core _ (set_region s core _ r y (there here)) (set_enclave _ core _ to z here)
 
 delete_changes : (s : State) (core : ℕ) (tried : List ObjectId) (rs : List ℕ) (k : ℕ) → ((r : ℕ) → IsIn rs r → IsIn tried (objects.Region r)) → ChangesOnly s (with_deleted s rs k) core tried
-delete_changes s core tried [] k m = nothing s core tried
+delete_changes s core tried [] k m = changes_nothing s core tried
 delete_changes s core tried (r ∷ rs) k m =
     both s _ _ core tried (set_region s core tried r _ (m r here)) (delete_changes _ core tried rs k (λ i h. m i (there h)))
 
@@ -147,7 +147,7 @@ held_changes s core (calls.Block r) digest k h = block_changes s core (mode_of s
 held_changes s core (calls.Free r) digest k h = set_region s core _ r _ (freed_in _ r _)
 held_changes s core (calls.Assign r to) digest k h = assign_changes (to == os_word) s core r to _ _ _
 held_changes s core calls.Flush digest k h = set_cell s core _ core k here
-held_changes s core (calls.RegionInfo r) digest k h = nothing s core _
+held_changes s core (calls.RegionInfo r) digest k h = changes_nothing s core _
 held_changes s core (calls.Create e base size) digest k h = set_slot s core _ e _ _ here
 held_changes s core (calls.LoadTable e va level page) digest k h = set_slot s core _ e _ _ here
 held_changes s core (calls.LoadPage e va page src perms) digest k h = set_slot s core _ e _ _ here
@@ -168,26 +168,26 @@ held_changes s core calls.Restore digest k h = set_thread s core _ (own_thread (
 held_changes s core (calls.Accept m from) digest k h = set_enclave s core _ _ _ (own_alone _ h)
 held_changes s core (calls.Send to m w0 w1 w2 w3) digest k h = set_enclave s core _ to _ (receiver_in _ to)
 held_changes s core (calls.Read m) digest k h = set_enclave s core _ _ _ (own_alone _ h)
-held_changes s core (calls.EnclaveInfo e) digest k h = nothing s core _
-held_changes s core (calls.SetSatp v) digest k h = nothing s core _
+held_changes s core (calls.EnclaveInfo e) digest k h = changes_nothing s core _
+held_changes s core (calls.SetSatp v) digest k h = changes_nothing s core _
 held_changes s core (calls.AcceptRegion r) digest k h =
     both s _ _ core _ (set_region s core _ r _ (behind_own _ r)) (set_enclave _ core _ _ _ (own_in _ _ h))
 held_changes s core (calls.Reserve e va page perms) digest k h = set_slot s core _ e _ _ here
-held_changes s core (calls.Unknown number args) digest k h = nothing s core _
+held_changes s core (calls.Unknown number args) digest k h = changes_nothing s core _
 
 -- ---- any call
 
 if_done : (b : Bool) (s t : State) (core : ℕ) (tried : List ObjectId) → ChangesOnly s t core tried → ChangesOnly s (if b then t else s) core tried
 if_done true s t core tried h = h
-if_done false s t core tried h = nothing s core tried
+if_done false s t core tried h = changes_nothing s core tried
 
 -- whether it is unsupported, of the wrong mode, of bad values
 unless_early : (u w b : Bool) (held : Reply) (s t : State) (core : ℕ) (tried : List ObjectId) → (w ≡ false → ChangesOnly s t core tried) →
     let refusal : Option Reply = if u then Some replies.Unsupported else if w then Some replies.AccessDenied else if b then Some replies.InvalidValue else None in
     ChangesOnly s (if is_done (or_else refusal held) then t else s) core (unless_refused refusal tried)
-unless_early true w b held s t core tried h = nothing s core _
-unless_early false true b held s t core tried h = nothing s core _
-unless_early false false true held s t core tried h = nothing s core _
+unless_early true w b held s t core tried h = changes_nothing s core _
+unless_early false true b held s t core tried h = changes_nothing s core _
+unless_early false false true held s t core tried h = changes_nothing s core _
 unless_early false false false held s t core tried h = if_done (is_done held) s t core tried (h refl)
 
 pub changes : (s : State) (core : ℕ) (call : Call) (digest : List ℕ) (k : ℕ) → ChangesOnly s (after s core call digest k) core (tries s core call)

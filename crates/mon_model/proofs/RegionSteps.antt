@@ -4,6 +4,7 @@ use Rattle.std.proofs.Math.ListN.{set}
 use Rattle.std.specs.List.{list_all}
 use Rattle.std.proofs.lemmas.List.{length-set}
 use Rattle.std.proofs.lemmas.Bool.{cases_eq, eq-eqb, eqb-true, ne_eqb}
+use Rattle.mon_types.proofs.Below.{by_eight}
 use Rattle.mon_types.specs.declared.region.Owner.{Owner}
 use Rattle.mon_types.specs.declared.region.Owner.TheVariants as owners
 use Rattle.mon_types.specs.declared.region.Region.{Region}
@@ -106,15 +107,7 @@ assign_table true s r to x y z = refl
 assign_table false s r to x y z = refl
 
 sole : (e : ℕ) → e < 8 → sole_slot (0 + 2 ^ e) ≡ e
-sole zero lt = refl
-sole (suc zero) lt = refl
-sole (suc (suc zero)) lt = refl
-sole (suc (suc (suc zero))) lt = refl
-sole (suc (suc (suc (suc zero)))) lt = refl
-sole (suc (suc (suc (suc (suc zero))))) lt = refl
-sole (suc (suc (suc (suc (suc (suc zero)))))) lt = refl
-sole (suc (suc (suc (suc (suc (suc (suc zero))))))) lt = refl
-sole (suc (suc (suc (suc (suc (suc (suc (suc e)))))))) lt = absurd (omega arith)
+sole = by_eight (λ e. sole_slot (0 + 2 ^ e) ≡ e) refl refl refl refl refl refl refl refl
 
 own_sole : (mode : Mode) (r : ℕ) → shuts_out AnEnclave mode ≡ false → ((e t : ℕ) → mode ≡ modes.Inside e t → e < 8) → sole_slot (tried_set (own_enclave mode ++ objects.Region r ∷ [])).enclaves ≡ own_slot mode
 own_sole modes.Os r inside small = refused (sym inside)

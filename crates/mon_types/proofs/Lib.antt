@@ -1,3 +1,4 @@
+pub mod Below
 pub mod Sets
 pub mod Rows
 pub mod RegionRows

@@ -2,7 +2,7 @@ use Rattle.std.proofs.Common.{◌≡◌, true, false, refl, arith}
 use Rattle.hist.specs.History.{entries_of, log_of}
 use Rattle.hist.specs.Legal.{AreOwn}
 use Rattle.hist.specs.Rows.{alone, has_a_page}
-use Rattle.hist.proofs.ByHand.{by_one}
+use Rattle.mon_types.proofs.Below.{by_one}
 use Rattle.hist.proofs.fields.has_a_page.Goals as goal
 
 pub returns-clause-entries : goal.returns-clause-entries

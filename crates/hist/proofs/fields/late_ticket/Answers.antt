@@ -2,7 +2,7 @@ use Rattle.std.proofs.Common.{refl, arith}
 use Rattle.hist.specs.History.{entries_of, log_of}
 use Rattle.hist.specs.Legal.{AreOwn}
 use Rattle.hist.specs.Rows.{late_ticket}
-use Rattle.hist.proofs.ByHand.{by_one}
+use Rattle.mon_types.proofs.Below.{by_one}
 use Rattle.hist.proofs.fields.late_ticket.Goals as goal
 
 pub returns : goal.returns

@@ -2,7 +2,7 @@ use Rattle.std.proofs.Common.{refl, arith}
 use Rattle.hist.specs.History.{entries_of, log_of}
 use Rattle.hist.specs.Legal.{AreOwn}
 use Rattle.hist.specs.Rows.{second_log}
-use Rattle.hist.proofs.ByHand.{by_two}
+use Rattle.mon_types.proofs.Below.{by_two}
 use Rattle.hist.proofs.fields.second_log.Goals as goal
 
 pub returns : goal.returns

@@ -3,7 +3,7 @@ use Rattle.mon_types.specs.declared.object.Tried.{Tried}
 use Rattle.hist.specs.History.{entries_of, log_of}
 use Rattle.hist.specs.Legal.{AreOwn}
 use Rattle.hist.specs.Rows.{alone, tries_nothing}
-use Rattle.hist.proofs.ByHand.{by_one}
+use Rattle.mon_types.proofs.Below.{by_one}
 use Rattle.hist.proofs.fields.tries_nothing.Goals as goal
 
 pub returns-clause-entries : goal.returns-clause-entries

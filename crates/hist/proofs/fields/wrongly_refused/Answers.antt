@@ -3,7 +3,7 @@ use Rattle.mon_types.specs.Replies.{done}
 use Rattle.hist.specs.History.{entries_of, log_of}
 use Rattle.hist.specs.Legal.{AreOwn}
 use Rattle.hist.specs.Rows.{alone, wrongly_refused}
-use Rattle.hist.proofs.ByHand.{by_one}
+use Rattle.mon_types.proofs.Below.{by_one}
 use Rattle.mon_types.specs.declared.reply.Reply.TheVariants as replies
 use Rattle.hist.proofs.fields.wrongly_refused.Goals as goal
 

@@ -4,7 +4,7 @@ use Rattle.hist.specs.History.{entries_of, log_of, history}
 use Rattle.hist.specs.Legal.{AreOwn}
 use Rattle.hist.specs.SafeLog.{AreSafe}
 use Rattle.hist.specs.Rows.{lost_race}
-use Rattle.hist.proofs.ByHand.{by_two}
+use Rattle.mon_types.proofs.Below.{by_two}
 use Rattle.hist.proofs.rows.lost_race.Goals as goal
 
 pub returns-clause-legal : goal.returns-clause-legal

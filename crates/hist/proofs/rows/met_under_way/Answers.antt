@@ -5,7 +5,8 @@ use Rattle.hist.specs.Legal.{AreOwn}
 use Rattle.hist.specs.Busy.{as_entry, AreRightlyBusy}
 use Rattle.mon_model.specs.Examples.{r3}
 use Rattle.hist.specs.Rows.{met_under_way, holds_now, meets_now}
-use Rattle.hist.proofs.ByHand.{by_two, not_held}
+use Rattle.mon_types.proofs.Below.{by_two}
+use Rattle.hist.proofs.ByHand.{not_held}
 use Rattle.hist.proofs.rows.met_under_way.Goals as goal
 
 pub returns-clause-legal : goal.returns-clause-legal

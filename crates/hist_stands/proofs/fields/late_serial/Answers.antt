@@ -3,9 +3,9 @@ use Rattle.mon_types.specs.Shape.{plain}
 use Rattle.hist.specs.History.{entries_of}
 use Rattle.hist.specs.Busy.{own}
 use Rattle.hist.specs.Rows.{block_3, logged}
+use Rattle.mon_types.proofs.Below.{by_one}
 use Rattle.hist_stands.specs.Stamp.{AreStamped}
 use Rattle.hist_stands.specs.Runs.{each_logs}
-use Rattle.hist_stands.proofs.ByHand.{by_one}
 use Rattle.hist_stands.proofs.fields.late_serial.Goals as goal
 
 pub returns : goal.returns

@@ -1,6 +1,6 @@
 use Rattle.std.proofs.Common.{arith}
-use Rattle.hist_stands.proofs.ByHand.{not_held}
 use Rattle.mon_model.specs.Examples.{r3}
+use Rattle.hist.proofs.ByHand.{not_held}
 use Rattle.hist_stands.proofs.fields.nobody_holds.Goals as goal
 
 pub returns : goal.returns

@@ -3,8 +3,9 @@ use Rattle.hist.specs.declared.event.Event.TheVariants as events
 use Rattle.hist.specs.History.{entries_of}
 use Rattle.hist.specs.Legal.{AreOwn}
 use Rattle.hist.specs.Busy.{own}
+use Rattle.mon_types.proofs.Below.{by_one}
 use Rattle.hist_stands.specs.Runs.{each_logs}
-use Rattle.hist_stands.proofs.ByHand.{by_one, none_from_five}
+use Rattle.hist_stands.proofs.ByHand.{none_from_five}
 use Rattle.hist_stands.proofs.fields.touch_of_no_period.Goals as goal
 
 pub returns : goal.returns

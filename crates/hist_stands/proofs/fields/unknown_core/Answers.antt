@@ -4,9 +4,9 @@ use Rattle.hist.specs.History.{entries_of}
 use Rattle.hist.specs.Legal.{AreOwn}
 use Rattle.hist.specs.Busy.{own}
 use Rattle.hist.specs.Rows.{block_3}
+use Rattle.mon_types.proofs.Below.{by_one}
 use Rattle.hist_stands.specs.Stamp.{AreStamped}
 use Rattle.hist_stands.specs.Runs.{each_logs}
-use Rattle.hist_stands.proofs.ByHand.{by_one}
 use Rattle.hist_stands.proofs.fields.unknown_core.Goals as goal
 
 pub returns : goal.returns

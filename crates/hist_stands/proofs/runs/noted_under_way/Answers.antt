@@ -2,8 +2,8 @@ use Rattle.std.proofs.Common.{[], refl, inr, arith}
 use Rattle.mon_types.specs.Shape.{plain}
 use Rattle.hist.specs.History.{history}
 use Rattle.hist.specs.Rows.{met_under_way, holds_now, meets_now}
+use Rattle.mon_types.proofs.Below.{by_two}
 use Rattle.hist_stands.specs.Found.{IsCallNoted}
-use Rattle.hist_stands.proofs.ByHand.{by_two}
 use Rattle.hist_stands.proofs.runs.noted_under_way.Goals as goal
 
 pub returns-clause-entry : goal.returns-clause-entry

@@ -4,9 +4,10 @@ use Rattle.mon_types.specs.declared.region.Owner.TheVariants as owners
 use Rattle.hist.specs.History.{entries_of}
 use Rattle.hist.specs.Legal.{AreOwn}
 use Rattle.hist.specs.Busy.{own}
+use Rattle.mon_types.proofs.Below.{by_two}
 use Rattle.hist_stands.specs.Stamp.{AreStamped}
 use Rattle.hist_stands.specs.Runs.{stale_logs, stale_history}
-use Rattle.hist_stands.proofs.ByHand.{by_two, none_behind_flush}
+use Rattle.hist_stands.proofs.ByHand.{none_behind_flush}
 use Rattle.hist_stands.proofs.runs.touch_before_the_block.Goals as goal
 
 pub returns-clause-stands : goal.returns-clause-stands

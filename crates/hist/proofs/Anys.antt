@@ -1,11 +1,16 @@
 -- Some entry of a list.
-use Rattle.std.proofs.Common.{◌≡◌, ℕ, zero, suc, ◌⊎◌, ◌==◌, true, false, if◌then◌else◌, List, [], ◌∷◌, ◌++◌, sym, subst, inl, inr, arith}
+use Rattle.std.proofs.Common.{◌≡◌, ℕ, zero, suc, ◌⊎◌, ◌==◌, true, false, if◌then◌else◌, List, [], ◌∷◌, ◌++◌, refl, sym, subst, inl, inr, arith}
 use Rattle.std.specs.Prelude.{Any}
 use Rattle.std.specs.List.{AllByRecursion}
 use Rattle.std.proofs.lemmas.Bool.{eq-eqb}
 use Rattle.hist.specs.declared.event.Entry.{Entry}
 use Rattle.hist.specs.Busy.{own}
-use Rattle.hist.proofs.Touching.{any_here, any_later}
+
+pub any_here : (P : Entry → Type 0) (e : Entry) (es : List Entry) → P e → Any P (e ∷ es)
+any_here P e es is = (0, e, omega arith, refl, is)
+
+pub any_later : (P : Entry → Type 0) (e : Entry) (es : List Entry) → Any P es → Any P (e ∷ es)
+any_later P e es is = (suc is.0, is.1, omega (arith, is.2), is.3, is.4)
 
 pub any_none : (P : Entry → Type 0) → Any P [] → ⊥
 any_none P any = omega (arith, any.2)
