@@ -1,5 +1,5 @@
 -- What is the text of an image is read as that image.
-use Rattle.std.proofs.Common.{◌≡◌, ◌⊎◌, ℕ, ◌+◌, ◌*◌, ◌/◌, ◌%◌, ◌^◌, ◌<◌, ◌≤◌, true, leb, eqb, ◌&&◌, ◌||◌, List, [], ◌∷◌, ◌++◌, length, take, drop, Result, Ok, refl, sym, ap, subst, ◌∙◌, append_assoc, arith, inl, inr, length-append}
+use Rattle.std.proofs.Common.{◌≡◌, ◌⊎◌, ℕ, ◌+◌, ◌*◌, ◌/◌, ◌%◌, ◌^◌, ◌<◌, ◌≤◌, true, leb, eqb, ◌&&◌, ◌||◌, List, [], ◌∷◌, ◌++◌, length, take, drop, Ok, refl, sym, ap, subst, ◌∙◌, append_assoc, arith, inl, inr, length-append}
 use Rattle.std.specs.List.{flat_map, AllByRecursion}
 use Rattle.std.specs.Int.{w16, w32, w64, from_le_bytes, to_le_bytes}
 use Rattle.std.proofs.lemmas.Bool.{cases_Bool, and_parts, and_from, eq-eqb, leb-true, le-leb, le-ltb}
@@ -12,9 +12,6 @@ use Rattle.mon_types.specs.declared.image.Image.{Image}
 use Rattle.mon_types.specs.declared.image.Segment.{Segment}
 use Rattle.mon_types.specs.declared.image.Start.{Start}
 use Rattle.dram_map.specs.Addresses.{dram_start, dram_end}
-use Rattle.image_read.specs.declared.fault.ImageFault.{ImageFault}
-use Rattle.image_read.specs.declared.fault.ParseError.{ParseError}
-use Rattle.image_read.specs.Answers.{Gives}
 use Rattle.image_read.specs.Image.{log2_of, magic, head_text, start_text, words_text, segment_head, segment_text, digest_text, most_cores, segment_end, IsSegment, AreSegments}
 use Rattle.image_read.specs.Grammar.{IsWideStart, IsWideSegment, IsImageText}
 use Rattle.image_read.specs.Reading.{limit, byte_at, is_few, is_zero, is_start, is_place, is_size, version_of, shape_at, head_of, start_at, starts_from, words_of, placed_at, segment_at, segments_from, digest_from, all_of, image_of}
@@ -217,6 +214,3 @@ image_again bytes image h =
     digest_again v bytes end digested ∙ ap (λ (k : ℕ). Ok k) (omega (arith, ap (λ (t : List ℕ). length (digest_text v t)) is_body, ap length h.text_is, length-append body digest, body_size)) in
     let short : length bytes ≤ limit = omega (arith, ap length h.text_is, length-append body digest, body_size, digest_size v body, is.few, few, few_cores v, is.cores, segments_size shape dram_start image.segments is.segments (omega arith)) in
     rw (le-ltb limit (length bytes) short, head, read_starts, read_segments, read_digest, le-ltb (length bytes) (length bytes) (omega arith)) refl
-
-pub only_if : (bytes : List ℕ) (r : Result Image ParseError) → Gives (λ i. i) r (image_of bytes) → (image : Image) → IsImageText bytes image → Gives (λ i. i) r (Ok image)
-only_if bytes r g image h = subst (λ (x : Result Image ImageFault). Gives (λ i. i) r x) (image_again bytes image h) g

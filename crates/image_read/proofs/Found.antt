@@ -7,14 +7,16 @@ use Rattle.std.proofs.lemmas.Bool.{cases_Bool, eqb-true, leb-true, ltb-false}
 use Rattle.std.proofs.lemmas.Slice.Eq.{bytes_eq-Decides}
 use Rattle.mon_types.specs.Shape.{Shape, shape_of, is_shape}
 use Rattle.mon_types.specs.declared.image.Start.{Start}
+use Rattle.reader_answers.specs.Steps.{◌>>=◌}
+use Rattle.reader_answers.proofs.Steps.{bind_ok, ok_is}
 use Rattle.image_read.specs.declared.fault.ImageFault.{ImageFault}
 use Rattle.image_read.specs.declared.fault.ImageFault.TheVariants as faults
 use Rattle.image_read.specs.declared.head.Head.{Head}
 use Rattle.image_read.specs.Image.{log2_of, magic, head_text, start_text, most_cores}
 use Rattle.image_read.specs.Grammar.{IsWideStart}
-use Rattle.image_read.specs.Reading.{◌>>=◌, byte_at, number_at, byte_in, field_at, is_few, is_zero, is_start, version_of, shape_at, head_of, start_at, starts_from}
+use Rattle.image_read.specs.Reading.{byte_at, number_at, byte_in, field_at, is_few, is_zero, is_start, version_of, shape_at, head_of, start_at, starts_from}
 use Rattle.image_read.proofs.Shapes.{made_shape, log_power}
-use Rattle.image_read.proofs.ReadFields.{IsBytes, Has, has_both, has_nothing, has_taken, bind_ok, ok_is, passed, byte_found, wide16, wide64, number_found, field_found, byte_in_found}
+use Rattle.image_read.proofs.ReadFields.{IsBytes, Has, has_both, has_nothing, has_taken, passed, byte_found, wide16, wide64, number_found, field_found, byte_in_found}
 
 -- ---- tests
 

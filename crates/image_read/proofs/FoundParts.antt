@@ -1,6 +1,5 @@
 -- What is read of the segments, the digest and the whole file is their text.
-use Rattle.std.proofs.Common.{◌≡◌, ℕ, zero, suc, ◌+◌, ◌*◌, ◌/◌, ◌%◌, ◌^◌, ◌<◌, ◌≤◌, cond, leb, ltb, eqb, List, [], ◌∷◌, ◌++◌, length, take, drop, Result, Ok, Err, refl, sym, ap, subst, ◌∙◌, arith, inl, inr, length-append, length-drop}
-use Rattle.std.specs.Prelude.{IfOk}
+use Rattle.std.proofs.Common.{◌≡◌, ℕ, zero, suc, ◌+◌, ◌*◌, ◌/◌, ◌%◌, ◌^◌, ◌<◌, ◌≤◌, cond, leb, ltb, eqb, List, [], ◌∷◌, ◌++◌, length, take, drop, Ok, Err, refl, sym, ap, subst, ◌∙◌, arith, inl, inr, length-append, length-drop}
 use Rattle.std.specs.List.{flat_map, AllByRecursion}
 use Rattle.std.specs.Int.{w32, w64, from_le_bytes, to_le_bytes}
 use Rattle.std.specs.Str.{bytes_eq}
@@ -14,14 +13,14 @@ use Rattle.mon_types.specs.declared.image.Image.{Image}
 use Rattle.mon_types.specs.declared.image.Segment.{Segment}
 use Rattle.mon_types.specs.declared.image.Start.{Start}
 use Rattle.dram_map.specs.Addresses.{dram_start, dram_end}
+use Rattle.reader_answers.specs.Steps.{◌>>=◌}
+use Rattle.reader_answers.proofs.Steps.{bind_ok, ok_is}
 use Rattle.image_read.specs.declared.fault.ImageFault.TheVariants as faults
-use Rattle.image_read.specs.declared.fault.ParseError.{ParseError}
 use Rattle.image_read.specs.declared.head.Head.{Head}
 use Rattle.image_read.specs.Image.{magic, head_text, start_text, words_text, segment_head, segment_text, digest_text, segment_end, IsSegment, AreSegments}
 use Rattle.image_read.specs.Grammar.{IsWideSegment, IsImageText}
-use Rattle.image_read.specs.Reading.{◌>>=◌, limit, field_at, read_to, is_zero, is_place, is_size, head_of, starts_from, words_of, is_inside, placed_at, segment_at, segments_from, digest_from, all_of, image_of}
-use Rattle.image_read.specs.Answers.{Gives}
-use Rattle.image_read.proofs.ReadFields.{IsBytes, IsBytes-drop, IsBytes-take, Has, has_both, has_nothing, has_taken, has_text, bind_ok, ok_is, guard_ok, read_to_ok, wide32, wide64, field_found}
+use Rattle.image_read.specs.Reading.{limit, field_at, read_to, is_zero, is_place, is_size, head_of, starts_from, words_of, is_inside, placed_at, segment_at, segments_from, digest_from, all_of, image_of}
+use Rattle.image_read.proofs.ReadFields.{IsBytes, IsBytes-drop, IsBytes-take, Has, has_both, has_nothing, has_taken, has_text, guard_ok, read_to_ok, wide32, wide64, field_found}
 use Rattle.image_read.proofs.ReadLoops.{words_length}
 use Rattle.image_read.proofs.Found.{not_failed, held, head_found, starts_found}
 
@@ -206,7 +205,3 @@ all_found bytes image fits e =
 pub image_found : (bytes : List ℕ) (image : Image) → IsBytes bytes → image_of bytes ≡ Ok image → IsImageText bytes image
 unfolding image_of
 image_found bytes image fits e = all_found bytes image fits (not_failed (ltb limit (length bytes)) faults.TooLong (all_of bytes) image e).1
-
-pub found_if : (bytes : List ℕ) (r : Result Image ParseError) → IsBytes bytes → Gives (λ i. i) r (image_of bytes) → IfOk r (λ image. IsImageText bytes image)
-found_if bytes (Ok image) fits h = image_found bytes image fits h
-found_if bytes (Err e) fits h = tt

@@ -1,12 +1,13 @@
 -- What stands at a place of the bytes, and the fields that are read there.
-use Rattle.std.proofs.Common.{◌≡◌, ℕ, suc, ◌+◌, ◌^◌, ◌<◌, ◌≤◌, Bool, true, false, cond, leb, ltb, ◌&&◌, List, [], ◌∷◌, ◌++◌, length, get_or, take, drop, slice_index, Result, Ok, Err, refl, sym, ap, subst, ◌∙◌, append_assoc, arith, inl, inr, drop-cons, length-append, length-drop}
+use Rattle.std.proofs.Common.{◌≡◌, ℕ, suc, ◌+◌, ◌^◌, ◌<◌, ◌≤◌, Bool, true, false, cond, leb, ltb, ◌&&◌, List, [], ◌∷◌, ◌++◌, length, get_or, take, drop, slice_index, Ok, Err, refl, sym, ap, subst, ◌∙◌, append_assoc, arith, inl, inr, drop-cons, length-append, length-drop}
 use Rattle.std.specs.Int.{Width, w16, w32, w64, byte_len, from_le_bytes, to_le_bytes}
 use Rattle.std.proofs.lemmas.Bool.{cases_lt, and_parts, and_from, ltb-false, le-ltb, leb-true, le-leb}
 use Rattle.std.proofs.lemmas.List.{take_at, drop_at, drop-drop, take-append-drop, length-take, get_or-drop, get_or-take, get_or_past}
 use Rattle.std.proofs.lemmas.Nat.{le_bytes_2, le_bytes_4, le_bytes_8, from_le_bytes-to_le_bytes_2, from_le_bytes-to_le_bytes_4, from_le_bytes-to_le_bytes_8}
+use Rattle.reader_answers.proofs.Steps.{bind_ok}
 use Rattle.image_read.specs.declared.fault.ImageFault.{ImageFault}
 use Rattle.image_read.specs.declared.fault.ImageFault.TheVariants as faults
-use Rattle.image_read.specs.Reading.{◌>>=◌, read_to, byte_at, number_at, checked, byte_in, field_at}
+use Rattle.image_read.specs.Reading.{read_to, byte_at, number_at, checked, byte_in, field_at}
 
 abbrev pub IsBytes : List ℕ → Type 0
 IsBytes bytes = (i : ℕ) → get_or bytes i 0 < 256
@@ -66,16 +67,6 @@ pub has_text : (bytes : List ℕ) (at : ℕ) (text : List ℕ) → Has bytes at 
 has_text bytes at text h = ap (take (length text)) h.here ∙ take_at text h.rest (length text) refl
 
 -- ---- steps
-
-pub bind_ok : {A B : Type 0} (r : Result A ImageFault) (f : A → Result B ImageFault) (y : B) → (r >>= f) ≡ Ok y → (x : A) × (r ≡ Ok x) × (f x ≡ Ok y)
-bind_ok (Ok x) f y e = (x, refl, e)
-bind_ok (Err d) f y e = absurd cc
-
-abbrev done : {A : Type 0} → A → Result A ImageFault
-done x = Ok x
-
-pub ok_is : {A : Type 0} (x y : A) → done x ≡ done y → x ≡ y
-ok_is x y e = cc
 
 -- a test that failed on no value
 pub guard_ok : {A : Type 0} (b : Bool) (d : ImageFault) (x y : A) → cond b (Err d) (Ok x) ≡ Ok y → (b ≡ false) × (x ≡ y)

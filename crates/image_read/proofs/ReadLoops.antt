@@ -6,13 +6,14 @@ use Rattle.byteorder.specs.Endian.{little_number, IsRead}
 use Rattle.mon_types.specs.Shape.{Shape}
 use Rattle.mon_types.specs.declared.image.Segment.{Segment}
 use Rattle.mon_types.specs.declared.image.Start.{Start}
+use Rattle.reader_answers.specs.declared.errors.ParseError.{ParseError}
+use Rattle.reader_answers.specs.declared.errors.ParseError.TheVariants as errors
+use Rattle.reader_answers.specs.Steps.{◌>>=◌}
+use Rattle.reader_answers.specs.Answers.{Fails}
 use Rattle.image_read.specs.declared.fault.ImageFault.{ImageFault}
 use Rattle.image_read.specs.Image.{segment_end}
-use Rattle.image_read.specs.Reading.{◌>>=◌, is_place, is_size, is_zero, field_at, start_at, starts_from, words_of, placed_at, segment_at, segments_from}
+use Rattle.image_read.specs.Reading.{is_place, is_size, is_zero, field_at, start_at, starts_from, words_of, placed_at, segment_at, segments_from}
 use Rattle.image_read.proofs.ReadFields.{read_to_is}
-use Rattle.image_read.specs.declared.fault.ParseError.{ParseError}
-use Rattle.image_read.specs.declared.fault.ParseError.TheVariants as errors
-use Rattle.image_read.specs.Answers.{Fails}
 
 -- ---- starts
 
@@ -102,7 +103,7 @@ segment_read shape bytes front grown place at after place_after count i s total 
     let one : behind_segments front (segments_from shape bytes i place at (count - i)) ≡ behind_segments (front ++ s ∷ []) left = rw (k, h) (regroup_segments front s left) in
     rw (g, p, a) (sym one ∙ so_far)
 
-pub segment_fails : (e : ParseError) (shape : Shape) (bytes : List ℕ) (front : List Segment) (place at count i : ℕ) (total : Result (List Segment × ℕ) ImageFault) → i < count → Fails e (segment_at shape bytes i place at)
+pub segment_fails : (e : ParseError ImageFault) (shape : Shape) (bytes : List ℕ) (front : List Segment) (place at count i : ℕ) (total : Result (List Segment × ℕ) ImageFault) → i < count → Fails e (segment_at shape bytes i place at)
     → behind_segments front (segments_from shape bytes i place at (count - i)) ≡ total → Fails e total
 unfolding segments_from
 segment_fails errors.Memory shape bytes front place at count i total lt h so_far = tt

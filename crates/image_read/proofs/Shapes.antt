@@ -2,6 +2,7 @@
 use Rattle.std.proofs.Common.{◌≡◌, ℕ, zero, suc, ◌^◌, ◌≤◌, Bool, true, false, leb, eqb, ◌&&◌, ◌||◌, refl, sym, subst, arith, inl, inr}
 use Rattle.std.specs.Prelude.{◌==◌, ◌%◌}
 use Rattle.std.proofs.lemmas.Bool.{cases_Bool, and_parts, and_from, eqb-true, leb-true, le-leb}
+use Rattle.mon_types.proofs.Below.{by_eight}
 use Rattle.mon_types.specs.Shape.{shape_of, is_core_count, is_region_count, is_page_count, is_shift, is_shape}
 use Rattle.image_read.specs.Image.{log2_of, most_cores}
 
@@ -18,14 +19,10 @@ core_count : (n : ℕ) → 1 ≤ n → n ≤ 16 → is_core_count n ≡ true
 core_count n least most = and_from (leb 1 n) (leb n 16) (le-leb 1 n least) (le-leb n 16 most)
 
 region_power : (r : ℕ) → 1 ≤ r → r ≤ 6 → is_region_count (2 ^ r) ≡ true
-region_power zero l m = absurd (omega (arith, l))
-region_power (suc zero) l m = refl
-region_power (suc (suc zero)) l m = refl
-region_power (suc (suc (suc zero))) l m = refl
-region_power (suc (suc (suc (suc zero)))) l m = refl
-region_power (suc (suc (suc (suc (suc zero))))) l m = refl
-region_power (suc (suc (suc (suc (suc (suc zero)))))) l m = refl
-region_power (suc (suc (suc (suc (suc (suc (suc r))))))) l m = absurd (omega (arith, m))
+region_power r least most =
+    by_eight (λ k. 1 ≤ k → k ≤ 6 → is_region_count (2 ^ k) ≡ true) (λ l m. absurd (omega (arith, l)))
+    (λ l m. refl) (λ l m. refl) (λ l m. refl) (λ l m. refl) (λ l m. refl) (λ l m. refl)
+    (λ l m. absurd (omega (arith, m))) r (omega (arith, most)) least most
 
 page_power : (p : ℕ) → p ≤ 4 → is_page_count (2 ^ p) ≡ true
 page_power zero m = refl
@@ -67,14 +64,10 @@ made_shape version cores regions pages shift c0 c1 r0 r1 p s =
     (page_power pages p)) (shift_power pages shift p s)
 
 pub log_power : (r : ℕ) → r ≤ 6 → log2_of (2 ^ r) ≡ r
-log_power zero m = refl
-log_power (suc zero) m = refl
-log_power (suc (suc zero)) m = refl
-log_power (suc (suc (suc zero))) m = refl
-log_power (suc (suc (suc (suc zero)))) m = refl
-log_power (suc (suc (suc (suc (suc zero))))) m = refl
-log_power (suc (suc (suc (suc (suc (suc zero)))))) m = refl
-log_power (suc (suc (suc (suc (suc (suc (suc r))))))) m = absurd (omega (arith, m))
+log_power r most =
+    by_eight (λ k. k ≤ 6 → log2_of (2 ^ k) ≡ k)
+    (λ m. refl) (λ m. refl) (λ m. refl) (λ m. refl) (λ m. refl) (λ m. refl) (λ m. refl)
+    (λ m. absurd (omega (arith, m))) r (omega (arith, most)) most
 
 -- ---- back to the logarithms
 

@@ -2,4 +2,3 @@ pub mod Image
 pub mod Told
 pub mod Grammar
 pub mod Reading
-pub mod Answers

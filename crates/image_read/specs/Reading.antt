@@ -9,6 +9,7 @@ use Rattle.mon_types.specs.declared.image.Image.{Image}
 use Rattle.mon_types.specs.declared.image.Segment.{Segment}
 use Rattle.mon_types.specs.declared.image.Start.{Start}
 use Rattle.dram_map.specs.Addresses.{dram_start, dram_end}
+use Rattle.reader_answers.specs.Steps.{◌>>=◌}
 use Rattle.image_read.specs.declared.fault.ImageFault.{ImageFault}
 use Rattle.image_read.specs.declared.fault.ImageFault.TheVariants as faults
 use Rattle.image_read.specs.declared.head.Head.{Head}
@@ -17,12 +18,6 @@ use Rattle.image_read.specs.Image.{magic, most_cores, segment_end}
 -- the most bytes of an image
 abbrev pub limit : ℕ
 limit = 4195632
-
--- goes on with what was read, or keeps the fault
-infixl 10 ◌>>=◌
-abbrev pub ◌>>=◌ : {A B : Type 0} → Result A ImageFault → (A → Result B ImageFault) → Result B ImageFault
-(Ok x) >>= f = f x
-(Err fault) >>= f = Err fault
 
 -- ---- fields
 

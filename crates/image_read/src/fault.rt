@@ -1,11 +1,6 @@
 //! What is wrong with an image.
 
-ghost use Rattle.std.specs.Prelude.{◌≡◌};
-ghost use Rattle.image_read.specs.declared.fault.ParseError.TheVariants as errors;
-ghost use Rattle.image_read.specs.declared.fault.ImageError.TheVariants as file_errors;
-
-use sm_ports::Failed;
-use std::alloc::AllocError;
+use reader_answers::{Fault, FileError};
 use thiserror::Error;
 
 /// The first fault of an image. Places are offsets in bytes from the file's begin, and segments are
@@ -41,46 +36,7 @@ pub enum ImageFault {
     TooLong,
 }
 
-/// Why bytes were not read as an image.
-#[derive(Debug, Drop)]
-pub enum ParseError {
-    /// The bytes are no image.
-    Fault(ImageFault),
-    /// There was no memory for the starts or the segments.
-    Memory,
-}
-
-impl From<AllocError> for ParseError {
-    ghost from_gives = { λ _ error. error ≡ errors.Memory };
-
-    fn from(_error: AllocError) -> ParseError {
-        ParseError::Memory
-    }
-}
-
-impl From<ImageFault> for ParseError {
-    ghost from_gives = { λ fault error. error ≡ errors.Fault fault };
-
-    fn from(fault: ImageFault) -> ParseError {
-        ParseError::Fault(fault)
-    }
-}
+impl Fault for ImageFault {}
 
 /// Why an image was not read.
-#[derive(Debug, Drop)]
-pub enum ImageError {
-    /// The file's bytes are no image.
-    Fault(ImageFault),
-    /// The depot failed, and has counted a fault of the file's name.
-    Read(Failed),
-    /// There was no memory for the bytes, the starts or the segments.
-    Memory,
-}
-
-impl From<AllocError> for ImageError {
-    ghost from_gives = { λ _ error. error ≡ file_errors.Memory };
-
-    fn from(_error: AllocError) -> ImageError {
-        ImageError::Memory
-    }
-}
+pub type ImageError = FileError<ImageFault>;

@@ -13,6 +13,6 @@ mod tally;
 mod tests;
 mod write;
 
-pub use fault::{ImageError, ImageFault, ParseError};
+pub use fault::{ImageError, ImageFault};
 pub use read::{LIMIT, parse_image, read_image};
 pub use write::{write_image, write_image_2};

@@ -2,15 +2,16 @@
 
 ghost use Rattle.std.specs.Prelude.{◌≡◌, ◌+◌, ◌*◌, ◌/◌, ◌%◌, ◌^◌, ◌<◌, ◌≤◌, length, true, IfOk};
 ghost use Rattle.dram_map.specs.Addresses.{dram_start};
+ghost use Rattle.reader_answers.specs.Answers.{Gives};
 ghost use Rattle.image_read.specs.Image.{segment_end};
 ghost use Rattle.image_read.specs.Reading.{limit, start_at, starts_from, words_of, is_inside, placed_at, segment_at, segments_from, digest_from};
-ghost use Rattle.image_read.specs.Answers.{Gives};
 
-use crate::fault::{ImageFault, ParseError};
+use crate::fault::ImageFault;
 use crate::fields::{address_at, short, size_at, start_pc_at, u64_at, zero_u32_at};
 use byteorder::{ByteOrder, LittleEndian};
 use dram_map::{DRAM_START, page_start};
 use mon_types::{Config, Items, Segment, Start};
+use reader_answers::ParseError;
 use sha2::{Digest, Sha256};
 use std::alloc::{AllocError, Global};
 
@@ -31,7 +32,11 @@ fn start_at(bytes: &[u8], at: usize) -> Result<Start, ImageFault>
 }
 
 /// The starts of this many cores.
-pub(crate) fn starts_of(alloc: Global, bytes: &[u8], cores: u8) -> Result<Items<Start>, ParseError>
+pub(crate) fn starts_of(
+    alloc: Global,
+    bytes: &[u8],
+    cores: u8,
+) -> Result<Items<Start>, ParseError<ImageFault>>
     requires file { length bytes.now ≤ limit }
     requires head { 16 ≤ length bytes.now }
     ensures starts { Gives (λ starts. starts) result (starts_from bytes.now 16 cores) }
@@ -96,7 +101,7 @@ fn segment_at(
     number: u16,
     place: u64,
     at: usize,
-) -> Result<Segment, ParseError>
+) -> Result<Segment, ParseError<ImageFault>>
     requires file { length bytes.now ≤ limit }
     requires place { at ≤ length bytes.now }
     ensures segment { Gives (λ s. s) result (segment_at config.now bytes.now number place at) }
@@ -122,7 +127,7 @@ pub(crate) fn segments_of(
     config: &Config,
     count: u16,
     at: usize,
-) -> Result<(Items<Segment>, usize), ParseError>
+) -> Result<(Items<Segment>, usize), ParseError<ImageFault>>
     requires file { length bytes.now ≤ limit }
     requires place { at ≤ length bytes.now }
     ensures segments { Gives (λ x. (x.0, x.1)) result (segments_from config.now bytes.now 0 dram_start at count) }

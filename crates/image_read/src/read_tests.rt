@@ -1,7 +1,8 @@
 //! Images by hand, and their first faults, with places that are worked out by hand.
 
-use crate::{ImageError, ImageFault, LIMIT, ParseError, parse_image, read_image};
+use crate::{ImageError, ImageFault, LIMIT, parse_image, read_image};
 use mon_types::{Config, Start};
+use reader_answers::ParseError;
 use sha2::{Digest, Sha256};
 use sm_ports::{DripDepot, MapDepot};
 use std::alloc::{AllocError, Global};

@@ -8,14 +8,17 @@ use Rattle.mon_types.specs.Shape.{Shape, is_shape}
 use Rattle.dram_map.specs.Addresses.{is_in_dram}
 use Rattle.text_in.specs.Lines.{lines_of}
 use Rattle.text_in.proofs.Lines.{text_lines_are, text_lines_found}
+use Rattle.reader_answers.specs.Steps.{◌>>=◌}
+use Rattle.reader_answers.specs.declared.errors.ParseError.{ParseError}
+use Rattle.reader_answers.specs.Answers.{Gives}
+use Rattle.reader_answers.proofs.Steps.{bind_ok, ok_is, not_ok}
 use Rattle.llc.specs.declared.fault.TraceFault.{TraceFault}
 use Rattle.llc.specs.declared.fault.TraceFault.TheVariants as faults
-use Rattle.llc.specs.declared.fault.ParseError.{ParseError}
 use Rattle.llc.specs.declared.line.Head.{Head}
 use Rattle.llc.specs.declared.trace.Trace.{Trace}
 use Rattle.llc.specs.Grammar.{HasWords, IsHead, IsAccess, AreAccesses, AreTraceLines, limit, IsTrace}
-use Rattle.llc.specs.Reading.{◌>>=◌, words_in, first_of, access_of, accesses_from, trace_behind, trace_at, trace_from, trace_of}
-use Rattle.llc.specs.Answers.{Gives, CanRun}
+use Rattle.llc.specs.Reading.{words_in, first_of, access_of, accesses_from, trace_behind, trace_at, trace_from, trace_of}
+use Rattle.llc.specs.Answers.{CanRun}
 use Rattle.llc.proofs.Heads.{words_read, words_there, head_is, head_read, first_found, first_empty, access_read, access_found}
 
 -- ---- what is in the grammar is read so
@@ -50,19 +53,9 @@ trace_is bytes trace h =
 
 -- ---- what is read is in the grammar
 
-bind_ok : {A B : Type 0} (r : Result A TraceFault) (f : A → Result B TraceFault) (y : B) → (r >>= f) ≡ Ok y → (x : A) × (r ≡ Ok x) × (f x ≡ Ok y)
-bind_ok (Ok x) f y e = (x, refl, e)
-bind_ok (Err fault) f y e = absurd cc
-
-same : {A : Type 0} (x y : A) → ◌≡◌ {A = Result A TraceFault} (Ok x) (Ok y) → x ≡ y
-same x y e = cc
-
-no_trace : (fault : TraceFault) (trace : Trace) (P : Type 0) → ◌≡◌ {A = Result Trace TraceFault} (Err fault) (Ok trace) → P
-no_trace fault trace P h = absurd cc
-
 accesses_found : (shape : Shape) (n : ℕ) (texts : List (List ℕ)) (addresses : List ℕ) → accesses_from shape n texts ≡ Ok addresses → AreAccesses shape texts addresses
 unfolding accesses_from
-accesses_found shape n [] addresses h = sym (same [] addresses h)
+accesses_found shape n [] addresses h = sym (ok_is [] addresses h)
 accesses_found shape n (text ∷ texts) addresses h =
     let a = bind_ok (access_of shape n (words_in text)) (λ access. accesses_from shape (n + 1) texts >>= λ others. Ok (option_to_list access ++ others)) addresses h in
     let b = bind_ok (accesses_from shape (n + 1) texts) (λ others. Ok (option_to_list a.0 ++ others)) addresses a.2 in (
@@ -71,7 +64,7 @@ accesses_found shape n (text ∷ texts) addresses h =
       b.0,
       words_there text,
       access_found shape n (words_in text) a.0 a.1,
-      sym (same (option_to_list a.0 ++ b.0) addresses b.2),
+      sym (ok_is (option_to_list a.0 ++ b.0) addresses b.2),
       accesses_found shape (n + 1) texts b.0 b.1,
     )
 
@@ -88,7 +81,7 @@ behind_found : (n m : ℕ) (text : List ℕ) (texts : List (List ℕ)) (head : H
     → trace_behind head m texts ≡ Ok trace → BeginsWithHead text texts trace
 behind_found n m text texts head trace first h =
     let a = bind_ok (accesses_from head.config m texts) (λ addresses. Ok (trace_with head addresses)) trace h in
-    subst (BeginsWithHead text texts) (same (trace_with head a.0) trace a.2)
+    subst (BeginsWithHead text texts) (ok_is (trace_with head a.0) trace a.2)
     (words_in text, words_there text, first_found n (words_in text) head first, accesses_found head.config m texts a.0 a.1)
 
 empty_line : (text : List ℕ) → words_in text ≡ [] → HasWords text []
@@ -101,7 +94,7 @@ by_head n text texts trace found (Some head) first later = inr (behind_found n (
 
 lines_found : (n : ℕ) (texts : List (List ℕ)) (trace : Trace) → trace_from n texts ≡ Ok trace → AreTraceLines texts trace
 unfolding trace_from
-lines_found n [] trace h = no_trace (faults.BadLine n) trace _ h
+lines_found n [] trace h = not_ok (faults.BadLine n) trace _ h
 lines_found n (text ∷ texts) trace h =
     let a = bind_ok (first_of n (words_in text)) (λ head. trace_at head (n + 1) texts (trace_from (n + 1) texts)) trace h in
     by_head n text texts trace (lines_found (n + 1) texts trace) a.0 a.1 a.2
@@ -110,7 +103,7 @@ pub trace_found : (bytes : List ℕ) (trace : Trace) → trace_of bytes ≡ Ok t
 unfolding trace_of
 trace_found bytes trace h =
     elim (cases_Bool (ltb limit (length bytes))) [
-      | inl t ↦ no_trace faults.TooLong trace (IsTrace bytes trace) (rw t at h)
+      | inl t ↦ not_ok faults.TooLong trace (IsTrace bytes trace) (rw t at h)
       | inr f ↦ record {
         within = ltb-false limit (length bytes) f;
         texts = lines_of bytes;
@@ -140,13 +133,6 @@ lines_run (text ∷ texts) trace (inr h) =
 
 -- ---- answers
 
-pub found_if : (bytes : List ℕ) (r : Result Trace ParseError) → Gives r (trace_of bytes) → IfOk r (λ trace. IsTrace bytes trace)
-found_if bytes (Ok trace) h = trace_found bytes trace h
-found_if bytes (Err e) h = tt
-
-pub only_if : (bytes : List ℕ) (r : Result Trace ParseError) → Gives r (trace_of bytes) → (trace : Trace) → IsTrace bytes trace → Gives r (Ok trace)
-only_if bytes r g trace h = subst (λ (x : Result Trace TraceFault). Gives r x) (trace_is bytes trace h) g
-
-pub runs_if : (bytes : List ℕ) (r : Result Trace ParseError) → Gives r (trace_of bytes) → IfOk r (λ trace. CanRun trace)
+pub runs_if : (bytes : List ℕ) (r : Result Trace (ParseError TraceFault)) → Gives (λ t. t) r (trace_of bytes) → IfOk r (λ trace. CanRun trace)
 runs_if bytes (Ok trace) h = let t = trace_found bytes trace h in lines_run t.texts trace t.are_lines
 runs_if bytes (Err e) h = tt

@@ -10,7 +10,8 @@ use Rattle.llc.specs.declared.fault.TraceFault.{TraceFault}
 use Rattle.llc.specs.declared.fault.TraceFault.TheVariants as faults
 use Rattle.llc.specs.declared.line.Head.{Head}
 use Rattle.llc.specs.declared.trace.Trace.{Trace}
-use Rattle.llc.specs.Reading.{◌>>=◌, words_in, first_of, access_of, accesses_from, trace_behind, trace_at, trace_from}
+use Rattle.reader_answers.specs.Steps.{◌>>=◌}
+use Rattle.llc.specs.Reading.{words_in, first_of, access_of, accesses_from, trace_behind, trace_at, trace_from}
 
 no_lines_left : (rest : List ℕ) → eqb (length rest) 0 ≡ true → lines_of rest ≡ []
 no_lines_left rest h = ap lines_of (nil_from_length rest (eqb-true (length rest) 0 h)) ∙ no_lines

@@ -8,6 +8,7 @@ use Rattle.text_in.specs.Cuts.{before_comment}
 use Rattle.text_in.specs.Lines.{lines_of}
 use Rattle.text_in.specs.Words.{words_of}
 use Rattle.text_in.specs.Numbers.{unsigned_of, up_to}
+use Rattle.reader_answers.specs.Steps.{◌>>=◌}
 use Rattle.llc.specs.declared.fault.TraceFault.{TraceFault}
 use Rattle.llc.specs.declared.fault.TraceFault.TheVariants as faults
 use Rattle.llc.specs.declared.line.Head.{Head}
@@ -81,12 +82,6 @@ access_of shape n [] = Ok None
 access_of shape n (word ∷ words) = ok_or (option_map Some (access_with shape word words)) (faults.BadLine n)
 
 -- ---- the whole file
-
--- goes on with what was read, or keeps the fault
-infixl 10 ◌>>=◌
-abbrev pub ◌>>=◌ : {A B : Type 0} → Result A TraceFault → (A → Result B TraceFault) → Result B TraceFault
-(Ok x) >>= f = f x
-(Err fault) >>= f = Err fault
 
 -- the accesses of these lines, the first of which has this number
 unfoldable pub accesses_from : Shape → ℕ → List (List ℕ) → Result (List ℕ) TraceFault

@@ -22,7 +22,7 @@ mod trace;
 
 pub use cache::Llc;
 pub use counting::tallies;
-pub use fault::{ParseError, TraceError, TraceFault};
+pub use fault::{TraceError, TraceFault};
 pub use laws::{hits_are_computed, regions_apart};
 pub use print::print_tallies;
 pub use read::{LIMIT, parse_trace, read_trace};

@@ -2,16 +2,19 @@
 
 ghost use Rattle.std.specs.Prelude.{◌≡◌, ◌≤◌, ◌<◌, ◌+◌, ◌^◌, ℕ, List, length, Ok, Err, IfOk};
 ghost use Rattle.sm_ports.specs.Causes.{Rose};
+ghost use Rattle.reader_answers.specs.declared.errors.FileError.TheVariants as errors;
+ghost use Rattle.reader_answers.specs.Answers.{Gives, FileFound, FileOnly, FileExact};
 ghost use Rattle.text_in.specs.Lines.{lines_of};
 ghost use Rattle.llc.specs.declared.trace.Trace.{Trace};
 ghost use Rattle.llc.specs.Grammar.{limit, IsTrace};
 ghost use Rattle.llc.specs.Reading.{accesses_from, trace_behind, trace_from, trace_of};
-ghost use Rattle.llc.specs.Answers.{Gives, FindsHead, FileFound, FileOnly, FileExact, widened, CanRun};
+ghost use Rattle.llc.specs.Answers.{FindsHead, CanRun};
 
-use crate::fault::{ParseError, TraceError, TraceFault};
+use crate::fault::{TraceError, TraceFault};
 use crate::line::{Head, read_access, read_first};
 use crate::trace::Trace;
 use mon_types::{Config, Items};
+use reader_answers::{ParseError, widen};
 use sm_ports::{Depot, Failed, ReadError, read_file};
 use std::alloc::Global;
 use text_in::next_line;
@@ -25,11 +28,11 @@ pub const LIMIT: usize = 16_777_216;
 /// grammar or more than `LIMIT`, and always there unless memory or a read fails. `TraceError::Read` comes
 /// only where the depot's count of faults of `name` rose in this call.
 pub fn read_trace<D: Depot>(alloc: Global, depot: &mut D, name: &str) -> Result<Trace, TraceError>
-    ensures found { FileFound (D.contents depot.old name.now) result }
-    ensures only { FileOnly (D.contents depot.old name.now) result }
-    ensures exact { FileExact (D.contents depot.old name.now) result }
+    ensures found { FileFound IsTrace (λ t. t) (D.contents depot.old name.now) result }
+    ensures only { FileOnly IsTrace (λ t. t) (D.contents depot.old name.now) result }
+    ensures exact { FileExact trace_of (λ t. t) (D.contents depot.old name.now) result }
     ensures runs { IfOk result (λ trace. CanRun trace) }
-    ensures read { (failed : Failed) → result ≡ Err (TraceError.Read failed) →
+    ensures read { (failed : Failed) → result ≡ Err (errors.Read failed) →
         Rose (D.faults depot.old name.now) (D.faults depot.new name.now) }
     ensures contents { D.contents depot.new ≡ D.contents depot.old }
     ensures later { (other : List ℕ) → D.faults depot.old other ≤ D.faults depot.new other }
@@ -38,9 +41,9 @@ pub fn read_trace<D: Depot>(alloc: Global, depot: &mut D, name: &str) -> Result<
 }
 
 fn read<D: Depot>(alloc: Global, depot: &mut D, name: &str) -> Result<Trace, TraceError>
-    ensures exact { FileExact (D.contents depot.old name.now) result }
+    ensures exact { FileExact trace_of (λ t. t) (D.contents depot.old name.now) result }
     ensures runs { IfOk result (λ trace. CanRun trace) }
-    ensures read { (failed : Failed) → result ≡ Err (TraceError.Read failed) →
+    ensures read { (failed : Failed) → result ≡ Err (errors.Read failed) →
         Rose (D.faults depot.old name.now) (D.faults depot.new name.now) }
     ensures contents { D.contents depot.new ≡ D.contents depot.old }
     ensures later { (other : List ℕ) → D.faults depot.old other ≤ D.faults depot.new other }
@@ -52,35 +55,25 @@ fn read<D: Depot>(alloc: Global, depot: &mut D, name: &str) -> Result<Trace, Tra
     }
 }
 
-fn widen(parsed: Result<Trace, ParseError>) -> Result<Trace, TraceError>
-    ensures { result ≡ widened parsed }
-{
-    match parsed {
-        Ok(trace) => Ok(trace),
-        Err(ParseError::Fault(fault)) => Err(TraceError::Fault(fault)),
-        Err(ParseError::Memory) => Err(TraceError::Memory),
-    }
-}
-
 /// Reads a trace from its bytes.
 ///
 /// `ParseError::Fault` is the first fault of the bytes; it comes only where they are outside the grammar
 /// or more than `LIMIT`, and always there unless memory runs out.
-pub fn parse_trace(alloc: Global, bytes: &[u8]) -> Result<Trace, ParseError>
+pub fn parse_trace(alloc: Global, bytes: &[u8]) -> Result<Trace, ParseError<TraceFault>>
     // What is read is in the grammar.
     ensures found { IfOk result (λ trace. IsTrace bytes.now trace) }
     // What is in the grammar is read so, unless memory runs out.
-    ensures only { (trace : Trace) → IsTrace bytes.now trace → Gives result (Ok trace) }
+    ensures only { (trace : Trace) → IsTrace bytes.now trace → Gives (λ t. t) result (Ok trace) }
     // Which fault it is.
-    ensures exact { Gives result (trace_of bytes.now) }
+    ensures exact { Gives (λ t. t) result (trace_of bytes.now) }
     ensures runs { IfOk result (λ trace. CanRun trace) }
 {
     parse(alloc, bytes)
 }
 
 #[tactic(auto, unfolding(crate::specs::Reading::trace_of))]
-fn parse(alloc: Global, bytes: &[u8]) -> Result<Trace, ParseError>
-    ensures { Gives result (trace_of bytes.now) }
+fn parse(alloc: Global, bytes: &[u8]) -> Result<Trace, ParseError<TraceFault>>
+    ensures { Gives (λ t. t) result (trace_of bytes.now) }
 {
     if bytes.len() > LIMIT {
         return Err(ParseError::Fault(TraceFault::TooLong));
@@ -92,9 +85,14 @@ fn parse(alloc: Global, bytes: &[u8]) -> Result<Trace, ParseError>
 }
 
 /// The trace with this head, and the accesses of the lines of these bytes, the first of which has this number.
-fn read_behind(alloc: Global, head: Head, line: u32, bytes: &[u8]) -> Result<Trace, ParseError>
+fn read_behind(
+    alloc: Global,
+    head: Head,
+    line: u32,
+    bytes: &[u8],
+) -> Result<Trace, ParseError<TraceFault>>
     requires { line + length bytes.now < 2 ^ 32 }
-    ensures { Gives result (trace_behind head line (lines_of bytes.now)) }
+    ensures { Gives (λ t. t) result (trace_behind head line (lines_of bytes.now)) }
 {
     let addresses = read_accesses(alloc, &head.config, line, bytes)?;
     Ok(Trace {
@@ -129,9 +127,9 @@ fn read_accesses(
     config: &Config,
     first: u32,
     bytes: &[u8],
-) -> Result<Items<u64>, ParseError>
+) -> Result<Items<u64>, ParseError<TraceFault>>
     requires { first + length bytes.now < 2 ^ 32 }
-    ensures { Gives result (accesses_from config.now first (lines_of bytes.now)) }
+    ensures { Gives (λ t. t) result (accesses_from config.now first (lines_of bytes.now)) }
 {
     let mut addresses = Items::new(alloc);
     let mut line = first;

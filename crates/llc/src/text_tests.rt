@@ -1,9 +1,7 @@
 //! Traces that are read, the first faulty line of each that is not, and the hits of some.
 
-use crate::{
-    LIMIT, ParseError, TraceError, TraceFault, hits, parse_trace, print_tallies, read_trace,
-    tallies,
-};
+use crate::{LIMIT, TraceError, TraceFault, hits, parse_trace, print_tallies, read_trace, tallies};
+use reader_answers::ParseError;
 use sm_ports::{DripDepot, Failed, MapDepot, VecSink};
 use std::alloc::{AllocError, Global};
 use std::test::Fail;
@@ -19,7 +17,7 @@ fn faulty_line(alloc: Global, text: &[u8]) -> Result<Option<u32>, AllocError> {
 }
 
 /// Which accesses of a trace are hits, one letter each: `h` for a hit, `m` for a miss.
-fn letters(alloc: Global, text: &[u8]) -> Result<String, ParseError> {
+fn letters(alloc: Global, text: &[u8]) -> Result<String, ParseError<TraceFault>> {
     let trace = parse_trace(alloc, text)?;
     let mut letters = String::new(alloc);
     for hit in &hits(alloc, &trace)? {
@@ -34,7 +32,7 @@ fn printed(
     text: &[u8],
     room: usize,
     fails: Vec<u32>,
-) -> Result<(VecSink, Result<(), Failed>), ParseError> {
+) -> Result<(VecSink, Result<(), Failed>), ParseError<TraceFault>> {
     let trace = parse_trace(alloc, text)?;
     let tallies = tallies(alloc, &trace)?;
     let mut out = VecSink::new(alloc, room, fails)?;

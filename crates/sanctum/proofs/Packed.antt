@@ -21,7 +21,7 @@ use Rattle.sanctum.specs.Packing.{word_limit, packed_image, version_for, IsPacke
 use Rattle.sanctum.specs.Sources.{Files}
 use Rattle.sanctum.specs.Refused.{refused_read, refused_asm}
 use Rattle.sanctum.specs.Causes.{IsReason}
-use Rattle.text_in.proofs.Files.{cut_same, whole_file}
+use Rattle.reader_answers.proofs.Cut.{cut_same, whole_file}
 use Rattle.sanctum.proofs.Told.{one_of}
 
 -- ---- A file is read up to one byte past the limit, which tells as much of a text as the whole file.

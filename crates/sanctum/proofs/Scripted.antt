@@ -5,12 +5,14 @@ use Rattle.mon_types.specs.declared.image.Image.{Image}
 use Rattle.mon_types.specs.declared.script.Line.{Line}
 use Rattle.mon_types.specs.declared.script.Script.{Script}
 use Rattle.sm_ports.specs.declared.failed.Failed.{Failed}
+use Rattle.reader_answers.specs.declared.errors.FileError.{FileError}
+use Rattle.reader_answers.specs.declared.errors.FileError.TheVariants as errors
+use Rattle.reader_answers.specs.Answers.{FileOnly, FileExact}
 use Rattle.script_read.specs.Grammar.{IsScript}
-use Rattle.script_read.specs.Answers.{FileOnly, FileExact, HasCount, AreFew}
+use Rattle.script_read.specs.Reading.{script_of}
+use Rattle.script_read.specs.Answers.{HasCount, AreFew}
 use Rattle.script_read.specs.declared.fault.ScriptFault.{ScriptFault}
 use Rattle.script_read.specs.declared.fault.ScriptFault.TheVariants as faults
-use Rattle.script_read.specs.declared.fault.ScriptError.{ScriptError}
-use Rattle.script_read.specs.declared.fault.ScriptError.TheVariants as errors
 use Rattle.solo.specs.Given.{IsOneScript}
 use Rattle.sanctum.specs.declared.output.Output.{Output}
 use Rattle.sanctum.specs.declared.status.Status.{Status}
@@ -25,7 +27,7 @@ use Rattle.sanctum.proofs.Told.{named_last}
 
 -- ---- results of reading
 
-abbrev no_script : ScriptError → Result Script ScriptError
+abbrev no_script : FileError ScriptFault → Result Script (FileError ScriptFault)
 no_script error = Err error
 
 abbrev faulty : ScriptFault → Result (List (List Line)) ScriptFault
@@ -37,18 +39,18 @@ good script = Ok script
 not_both : (script : List (List Line)) (fault : ScriptFault) → good script ≡ faulty fault → ⊥
 not_both script fault e = cc
 
-first_fault : (told : Option (List ℕ)) (cores : Option ℕ) (fault : ScriptFault) → FileOnly told cores (no_script (errors.Fault fault)) → FileExact told cores (no_script (errors.Fault fault)) → IfSome told (λ bytes. HasFirstFault cores bytes fault)
+first_fault : (told : Option (List ℕ)) (cores : Option ℕ) (fault : ScriptFault) → FileOnly (IsScript cores) (λ s. s.cores) told (no_script (errors.Fault fault)) → FileExact (script_of cores) (λ s. s.cores) told (no_script (errors.Fault fault)) → IfSome told (λ bytes. HasFirstFault cores bytes fault)
 first_fault None cores fault only exact = tt
 first_fault (Some bytes) cores fault only exact = record { first = exact; outside = λ script is. not_both script fault (only script is) }
 
 -- what the error of reading a script says, where this is what the depot tells of it
-pub record IsUnread (told : Option (List ℕ)) (cores : Option ℕ) (rose : Type 0) (error : ScriptError) : Type 0 where
-  pub only : FileOnly told cores (no_script error)
-  pub exact : FileExact told cores (no_script error)
+pub record IsUnread (told : Option (List ℕ)) (cores : Option ℕ) (rose : Type 0) (error : FileError ScriptFault) : Type 0 where
+  pub only : FileOnly (IsScript cores) (λ s. s.cores) told (no_script error)
+  pub exact : FileExact (script_of cores) (λ s. s.cores) told (no_script error)
   pub read : (failed : Failed) → no_script error ≡ no_script (errors.Read failed) → rose
 
 -- the same of the files as they were before, and of the count that is given
-pub moved : (between files : Files) (name : List ℕ) (cores given : Option ℕ) (rose : Type 0) (error : ScriptError) → between ≡ files → cores ≡ given → IsUnread (between name) cores rose error → IsUnread (files name) given rose error
+pub moved : (between files : Files) (name : List ℕ) (cores given : Option ℕ) (rose : Type 0) (error : FileError ScriptFault) → between ≡ files → cores ≡ given → IsUnread (between name) cores rose error → IsUnread (files name) given rose error
 moved between files name cores given rose error same is u =
     subst (λ (f : Files). IsUnread (f name) given rose error) same (subst (λ (n : Option ℕ). IsUnread (between name) n rose error) is u)
 
@@ -74,7 +76,7 @@ script_fault asked files origin name image rose fault is count u = record {
   first = first_fault (files name) (cores_given asked origin image) fault u.only u.exact;
 }
 
-pub run_without_script : (files : Files) (rose : List ℕ → Type 0) (origin : Origin) (name : List ℕ) (image : Image) (error : ScriptError) → IsImageOf files 1 origin image → IsUnread (files name) (cores_given None origin image) (rose name) error
+pub run_without_script : (files : Files) (rose : List ℕ → Type 0) (origin : Origin) (name : List ℕ) (image : Image) (error : FileError ScriptFault) → IsImageOf files 1 origin image → IsUnread (files name) (cores_given None origin image) (rose name) error
     → IsReason (Run origin name) files rose (refused_script error)
 run_without_script files rose origin name image (errors.Fault fault) is u = inl (script_fault None files origin name image (rose name) fault is tt u)
 run_without_script files rose origin name image (errors.Read failed) is u = named_last rose origin name (u.read failed refl)
@@ -85,7 +87,7 @@ pub given_one : (origin : Origin) (image : Image) → image.config.cores ≡ 1 �
 given_one Plain image one = refl
 given_one (File name) image one = ap (λ (n : ℕ). Some n) one
 
-pub solo_without_script : (files : Files) (rose : List ℕ → Type 0) (origin : Origin) (name : List ℕ) (image : Image) (error : ScriptError) → IsImageOf files 1 origin image → image.config.cores ≡ 1 → IsUnread (files name) (Some 1) (rose name) error
+pub solo_without_script : (files : Files) (rose : List ℕ → Type 0) (origin : Origin) (name : List ℕ) (image : Image) (error : FileError ScriptFault) → IsImageOf files 1 origin image → image.config.cores ≡ 1 → IsUnread (files name) (Some 1) (rose name) error
     → IsReason (Solo origin name) files rose (refused_script error)
 solo_without_script files rose origin name image (errors.Fault fault) is one u =
     script_fault (Some 1) files origin name image (rose name) fault is one (subst (λ (cores : Option ℕ). IsUnread (files name) cores (rose name) (errors.Fault fault)) (sym (given_one origin image one)) u)

@@ -1,6 +1,7 @@
 //! The image that a word names.
 
 ghost use Rattle.std.specs.Prelude.{◌≡◌, ◌≤◌, ℕ, List, Err, IfOk};
+ghost use Rattle.reader_answers.specs.declared.errors.FileError.TheVariants as errors;
 ghost use Rattle.image_read.specs.Image.{IsImage};
 ghost use Rattle.image_read.specs.declared.fault.ImageFault.{ImageFault};
 ghost use Rattle.sanctum.specs.Commands.{IsNamed};
@@ -28,8 +29,8 @@ pub fn read_source<D: Depot>(
     requires most { cores ≤ 8 }
     ensures found { IfOk result (IsImageOf (D.contents depot.old) cores (source_said source.now)) }
     ensures valid { IfOk result (IsImage 2) }
-    ensures fault { (fault : ImageFault) → result ≡ Err (ImageError.Fault fault) → IsOriginFault (D.contents depot.old) (source_said source.now) fault }
-    ensures read { (failed : Failed) → result ≡ Err (ImageError.Read failed) → IsNamed (Rises (D.faults depot.old) (D.faults depot.new)) (source_said source.now) }
+    ensures fault { (fault : ImageFault) → result ≡ Err (errors.Fault fault) → IsOriginFault (D.contents depot.old) (source_said source.now) fault }
+    ensures read { (failed : Failed) → result ≡ Err (errors.Read failed) → IsNamed (Rises (D.faults depot.old) (D.faults depot.new)) (source_said source.now) }
     ensures contents { D.contents depot.new ≡ D.contents depot.old }
     ensures later { (other : List ℕ) → D.faults depot.old other ≤ D.faults depot.new other }
 {

@@ -7,14 +7,15 @@ use Rattle.script_read.specs.declared.said.Said.{Said}
 use Rattle.script_read.specs.declared.said.Said.TheVariants as says
 use Rattle.script_read.specs.declared.fault.ScriptFault.{ScriptFault}
 use Rattle.script_read.specs.declared.fault.ScriptFault.TheVariants as faults
-use Rattle.script_read.specs.declared.fault.ParseError.{ParseError}
-use Rattle.script_read.specs.declared.fault.ParseError.TheVariants as errors
+use Rattle.reader_answers.specs.declared.errors.ParseError.{ParseError}
+use Rattle.reader_answers.specs.declared.errors.ParseError.TheVariants as errors
+use Rattle.reader_answers.specs.Steps.{◌>>=◌}
+use Rattle.reader_answers.specs.Answers.{Fails}
 use Rattle.text_in.specs.Lines.{lines_of}
 use Rattle.text_in.proofs.Lines.{no_lines}
 use Rattle.script_read.specs.Cores.{core_after, turns_of_core, turn_limit}
 use Rattle.script_read.specs.Grammar.{limit}
-use Rattle.script_read.specs.Reading.{◌>>=◌, line_of, said_next, line_next, said_from, all_said}
-use Rattle.script_read.specs.Answers.{Fails}
+use Rattle.script_read.specs.Reading.{line_of, said_next, line_next, said_from, all_said}
 use Rattle.script_read.specs.Drafts.{Keeps, Drafts}
 
 -- the draft keeps what so many lines of the bytes have said, and the rest of the bytes is still to be read
@@ -87,12 +88,12 @@ going_on count line bytes rest after text draft taken said g l h a shorter =
       within = omega (arith, g.within);
     }
 
-fails_behind : (error : ParseError) (count n : ℕ) (texts : List (List ℕ)) (read total : Result (List Said) ScriptFault) → Fails error read → behind count n texts read ≡ total → Fails error total
+fails_behind : (error : ParseError ScriptFault) (count n : ℕ) (texts : List (List ℕ)) (read total : Result (List Said) ScriptFault) → Fails error read → behind count n texts read ≡ total → Fails error total
 fails_behind errors.Memory count n texts read total h so_far = tt
 fails_behind (errors.Fault fault) count n texts read total h so_far = sym so_far ∙ ap (behind count n texts) h
 
 -- what the next line says was not taken
-pub going_stops : (count line : ℕ) (bytes rest after text : List ℕ) (draft : Draft) (said : Said) (error : ParseError) (g : Going count line bytes rest draft) → lines_of rest ≡ text ∷ lines_of after → Ok (Some said) ≡ line_of count (line + 1) text
+pub going_stops : (count line : ℕ) (bytes rest after text : List ℕ) (draft : Draft) (said : Said) (error : ParseError ScriptFault) (g : Going count line bytes rest draft) → lines_of rest ≡ text ∷ lines_of after → Ok (Some said) ≡ line_of count (line + 1) text
     → Fails error (said_next (line + 1) g.said said) → Fails error (all_said count bytes)
 going_stops count line bytes rest after text draft said error g l h fails =
     fails_behind error count (line + 1) (lines_of after) (said_next (line + 1) g.said said) (all_said count bytes) fails

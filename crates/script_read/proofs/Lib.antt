@@ -6,3 +6,6 @@ pub mod ScriptLaws
 mod Drafting
 mod Going
 mod Files
+mod ItemLaws
+pub mod ScheduleLaws
+mod ItemsGoing

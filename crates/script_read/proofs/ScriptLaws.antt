@@ -13,13 +13,16 @@ use Rattle.script_read.specs.declared.said.Said.{Said}
 use Rattle.script_read.specs.declared.said.Said.TheVariants as says
 use Rattle.script_read.specs.declared.fault.ScriptFault.{ScriptFault}
 use Rattle.script_read.specs.declared.fault.ScriptFault.TheVariants as faults
-use Rattle.script_read.specs.declared.fault.ParseError.{ParseError}
+use Rattle.reader_answers.specs.declared.errors.ParseError.{ParseError}
+use Rattle.reader_answers.specs.Steps.{◌>>=◌}
+use Rattle.reader_answers.specs.Answers.{Gives}
+use Rattle.reader_answers.proofs.Steps.{bind_ok, ok_is, not_ok}
 use Rattle.text_in.specs.Lines.{lines_of}
 use Rattle.script_read.specs.Cores.{if_mine, lines_of_core, core_after, turns_of, turns_of_core, turn_limit, greatest_core, core_limit, core_count, lists_for}
 use Rattle.script_read.specs.Grammar.{AreLines, limit, IsScript}
-use Rattle.script_read.specs.Reading.{◌>>=◌, line_of, line_next, said_from, all_said, script_of}
+use Rattle.script_read.specs.Reading.{line_of, line_next, said_from, all_said, script_of}
 use Rattle.script_read.specs.Drafts.{MayBeSaid}
-use Rattle.script_read.specs.Answers.{Gives, AreFew, HaveFewTurns, HasCount}
+use Rattle.script_read.specs.Answers.{AreFew, HaveFewTurns, HasCount}
 use Rattle.text_in.proofs.Lines.{text_lines_are, text_lines_found}
 use Rattle.script_read.proofs.Cores.{mine_own, mine_other, lines_few, run_turns, run_counts, line_turns, named_turns, greatest_more, all_lists}
 use Rattle.script_read.proofs.LineLaws.{stands_may, line_is, line_found}
@@ -60,16 +63,6 @@ script_is cores bytes script h =
 
 -- ---- what is read is in the grammar
 
-bind_ok : {A B : Type 0} (r : Result A ScriptFault) (f : A → Result B ScriptFault) (y : B) → (r >>= f) ≡ Ok y → (x : A) × (r ≡ Ok x) × (f x ≡ Ok y)
-bind_ok (Ok x) f y e = (x, refl, e)
-bind_ok (Err fault) f y e = absurd cc
-
-same : {A : Type 0} (x y : A) → ◌≡◌ {A = Result A ScriptFault} (Ok x) (Ok y) → x ≡ y
-same x y e = cc
-
-not_ok : {A : Type 0} (fault : ScriptFault) (x : A) (P : Type 0) → ◌≡◌ {A = Result A ScriptFault} (Err fault) (Ok x) → P
-not_ok fault x P e = absurd cc
-
 -- what was said, with a line more
 record HasNext (before : List Said) (line : Option Said) (all : List Said) : Type 0 where
   all_is : all ≡ before ++ option_to_list line
@@ -90,20 +83,20 @@ run_few turns before few sum = λ core.
 
 next_found : (count n : ℕ) (before : List Said) (line : Option Said) (all : List Said) → FewTurns before → IfSome line (MayBeSaid count) → line_next n before line ≡ Ok all → HasNext before line all
 next_found count n before None all few may h =
-    let is : before ≡ all = same before all h in
+    let is : before ≡ all = ok_is before all h in
     record { all_is = sym is ∙ sym (append-nil before); few = subst FewTurns is few }
 next_found count n before (Some (says.Line line)) all few may h =
-    let is : before ++ says.Line line ∷ [] ≡ all = same (before ++ says.Line line ∷ []) all h in
+    let is : before ++ says.Line line ∷ [] ≡ all = ok_is (before ++ says.Line line ∷ []) all h in
     record { all_is = sym is; few = subst FewTurns is (λ core. omega (arith, line_turns core line before may, few core)) }
 next_found count n before (Some (says.Run turns)) all few may h =
     elim (cases_Bool (ltb turn_limit (turns_of_core (core_after before) before + turns))) [
       | inl t ↦ not_ok (faults.TurnsOver n) all (HasNext before (Some (says.Run turns)) all) (rw t at h)
       | inr f ↦
-          let is : before ++ says.Run turns ∷ [] ≡ all = same (before ++ says.Run turns ∷ []) all (rw f at h) in
+          let is : before ++ says.Run turns ∷ [] ≡ all = ok_is (before ++ says.Run turns ∷ []) all (rw f at h) in
           record { all_is = sym is; few = subst FewTurns is (run_few turns before few (ltb-false turn_limit (turns_of_core (core_after before) before + turns) f)) }
     ]
 next_found count n before (Some (says.Core core)) all few may h =
-    let is : before ++ says.Core core ∷ [] ≡ all = same (before ++ says.Core core ∷ []) all h in
+    let is : before ++ says.Core core ∷ [] ≡ all = ok_is (before ++ says.Core core ∷ []) all h in
     record { all_is = sym is; few = subst FewTurns is (λ c. omega (arith, named_turns c core before, few c)) }
 
 -- what lines said, behind what was said before
@@ -116,7 +109,7 @@ record HasSaid (count : ℕ) (before : List Said) (texts : List (List ℕ)) (all
 said_found : (count n : ℕ) (before : List Said) (texts : List (List ℕ)) (all : List Said) → FewTurns before → said_from count n before texts ≡ Ok all → HasSaid count before texts all
 unfolding said_from
 said_found count n before [] all few h =
-    let is : before ≡ all = same before all h in
+    let is : before ≡ all = ok_is before all h in
     record { more = []; are = refl; all_is = sym is ∙ sym (append-nil before); few = subst FewTurns is few }
 said_found count n before (text ∷ texts) all few h =
     let a = bind_ok (line_of count n text) (λ line. line_next n before line >>= λ said. said_from count (n + 1) said texts) all h in
@@ -142,7 +135,7 @@ whole_found cores bytes script within h =
       are_texts = text_lines_found bytes (lines_of bytes) refl;
       are_lines = subst (AreLines (core_limit cores) (lines_of bytes)) (sym s.all_is) s.are;
       few_turns = s.few;
-      script_is = sym (same (lists_for (core_count cores a.0) a.0) script a.2);
+      script_is = sym (ok_is (lists_for (core_count cores a.0) a.0) script a.2);
     }
 
 pub script_found : (cores : Option ℕ) (bytes : List ℕ) (script : List (List Line)) → script_of cores bytes ≡ Ok script → IsScript cores bytes script
@@ -185,18 +178,11 @@ has_count (Some count) bytes script h = ap length h.script_is ∙ count_lists co
 
 -- ---- answers
 
-pub found_if : (cores : Option ℕ) (bytes : List ℕ) (r : Result Script ParseError) → Gives (λ s. s.cores) r (script_of cores bytes) → IfOk r (λ s. IsScript cores bytes s.cores)
-found_if cores bytes (Ok s) h = script_found cores bytes s.cores h
-found_if cores bytes (Err e) h = tt
-
-pub only_if : (cores : Option ℕ) (bytes : List ℕ) (r : Result Script ParseError) → Gives (λ s. s.cores) r (script_of cores bytes) → (script : List (List Line)) → IsScript cores bytes script → Gives (λ s. s.cores) r (Ok script)
-only_if cores bytes r g script h = subst (λ (x : Result (List (List Line)) ScriptFault). Gives (λ s. s.cores) r x) (script_is cores bytes script h) g
-
-pub count_if : (cores : Option ℕ) (bytes : List ℕ) (r : Result Script ParseError) → Gives (λ s. s.cores) r (script_of cores bytes) → IfOk r (λ s. HasCount cores s.cores)
+pub count_if : (cores : Option ℕ) (bytes : List ℕ) (r : Result Script (ParseError ScriptFault)) → Gives (λ s. s.cores) r (script_of cores bytes) → IfOk r (λ s. HasCount cores s.cores)
 count_if cores bytes (Ok s) h = has_count cores bytes s.cores (script_found cores bytes s.cores h)
 count_if cores bytes (Err e) h = tt
 
-pub turns_if : (cores : Option ℕ) (bytes : List ℕ) (r : Result Script ParseError) → Gives (λ s. s.cores) r (script_of cores bytes) → IfOk r (λ s. HaveFewTurns s.cores)
+pub turns_if : (cores : Option ℕ) (bytes : List ℕ) (r : Result Script (ParseError ScriptFault)) → Gives (λ s. s.cores) r (script_of cores bytes) → IfOk r (λ s. HaveFewTurns s.cores)
 turns_if cores bytes (Ok s) h =
     let f = script_found cores bytes s.cores h in
     subst HaveFewTurns (sym f.script_is) (turns_lists (core_count cores f.said) f.said f.few_turns)

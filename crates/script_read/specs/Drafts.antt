@@ -1,14 +1,14 @@
 -- What a draft keeps of the lines that were read so far. All of it is this project's own.
 use Rattle.std.specs.Prelude.{◌≡◌, ◌<◌, ◌≤◌, ℕ, ◌+◌, nat_lt, if◌then◌else◌, List, [], length, slice_index, slice_index_or, Option, Some, None, Result, Ok, Err}
 use Rattle.mon_types.specs.declared.script.Line.{Line}
+use Rattle.reader_answers.specs.declared.errors.ParseError.{ParseError}
+use Rattle.reader_answers.specs.Answers.{Fails}
 use Rattle.script_read.specs.declared.draft.Draft.{Draft}
 use Rattle.script_read.specs.declared.said.Said.{Said}
 use Rattle.script_read.specs.declared.said.Said.TheVariants as says
 use Rattle.script_read.specs.declared.fault.ScriptFault.{ScriptFault}
-use Rattle.script_read.specs.declared.fault.ParseError.{ParseError}
 use Rattle.script_read.specs.Cores.{turns_in, turn_limit, lines_of_core, core_after, turns_of_core, greatest_core}
 use Rattle.script_read.specs.Grammar.{limit}
-use Rattle.script_read.specs.Answers.{Fails}
 
 -- the lines of a core among these lists
 abbrev pub list_at : List (List Line) → ℕ → List Line
@@ -36,12 +36,12 @@ MayBeSaid count (says.Run turns) = Unit {0}
 MayBeSaid count (says.Core core) = core < count
 
 -- the draft keeps what was read, unless that is a fault, or memory ran out
-abbrev pub Adds : {Y : Type 0} → ℕ → Draft → Result Y ParseError → Result (List Said) ScriptFault → Type 0
+abbrev pub Adds : {Y : Type 0} → ℕ → Draft → Result Y (ParseError ScriptFault) → Result (List Said) ScriptFault → Type 0
 Adds count draft (Ok done) read = (said : List Said) × (read ≡ Ok said) × Keeps count said draft
 Adds count draft (Err error) read = Fails error read
 
 -- the answer is a draft that keeps what was read, no more than a script has bytes at most, unless that is a fault, or
 -- memory ran out
-abbrev pub Drafts : ℕ → Result Draft ParseError → Result (List Said) ScriptFault → Type 0
+abbrev pub Drafts : ℕ → Result Draft (ParseError ScriptFault) → Result (List Said) ScriptFault → Type 0
 Drafts count (Ok draft) read = (said : List Said) × (read ≡ Ok said) × Keeps count said draft × (length said ≤ limit)
 Drafts count (Err error) read = Fails error read

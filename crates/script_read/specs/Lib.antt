@@ -4,3 +4,4 @@ pub mod Forms
 pub mod Reading
 pub mod Answers
 pub mod Drafts
+pub mod Schedule

@@ -5,6 +5,7 @@ use Rattle.std.specs.Option.{option_and_then, option_map}
 use Rattle.std.specs.Char.{is_ascii}
 use Rattle.std.specs.Str.{bytes_eq}
 use Rattle.mon_types.specs.declared.script.Line.{Line}
+use Rattle.reader_answers.specs.Steps.{◌>>=◌}
 use Rattle.script_read.specs.declared.form.Form.{Form}
 use Rattle.script_read.specs.declared.fault.LineKind.{LineKind}
 use Rattle.script_read.specs.declared.fault.LineKind.TheVariants as kinds
@@ -72,12 +73,6 @@ unfoldable pub line_of : ℕ → ℕ → List ℕ → Result (Option Said) Scrip
 line_of count n text =
     if list_all is_ascii (before_comment text) then line_of_words count n (words_of (before_comment text))
     else Err (faults.BadLine n kinds.UnknownWord)
-
--- goes on with what was read, or keeps the fault
-infixl 10 ◌>>=◌
-abbrev pub ◌>>=◌ : {A B : Type 0} → Result A ScriptFault → (A → Result B ScriptFault) → Result B ScriptFault
-(Ok x) >>= f = f x
-(Err fault) >>= f = Err fault
 
 -- what was said before, and this behind it; a run is a fault of the line of this number where with it the turns of its
 -- core are more than they may be

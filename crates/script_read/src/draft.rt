@@ -7,9 +7,10 @@ ghost use Rattle.script_read.specs.Cores.{turns_in, turn_limit, core_limit, core
 ghost use Rattle.script_read.specs.Reading.{said_next};
 ghost use Rattle.script_read.specs.Drafts.{list_at, turns_with, Keeps, MayBeSaid, Adds};
 
-use crate::fault::{ParseError, ScriptFault};
+use crate::fault::ScriptFault;
 use crate::said::Said;
 use mon_types::{Items, Line, Script};
+use reader_answers::ParseError;
 use std::alloc::{AllocError, Global};
 
 /// The most turns that all `run` lines of a core have together.
@@ -43,7 +44,7 @@ impl Draft {
     }
 
     /// Takes what the line of this number says.
-    pub fn take(&mut self, line: u32, said: Said) -> Result<(), ParseError>
+    pub fn take(&mut self, line: u32, said: Said) -> Result<(), ParseError<ScriptFault>>
         requires core { self.old.core < vec_len self.old.lists }
         requires said { MayBeSaid (vec_len self.old.lists) said }
         ensures { (count : ℕ) (before : List Said) → Keeps count before self.old → Adds count self.new result (said_next line before said) }
@@ -72,7 +73,7 @@ impl Draft {
     }
 
     /// The line of this number is a run of so many turns.
-    fn run(&mut self, line: u32, turns: u64) -> Result<(), ParseError>
+    fn run(&mut self, line: u32, turns: u64) -> Result<(), ParseError<ScriptFault>>
         requires { self.old.core < vec_len self.old.lists }
         ensures { (count : ℕ) (before : List Said) → Keeps count before self.old → Adds count self.new result (said_next line before (says.Run turns)) }
     {

@@ -1,10 +1,6 @@
-//! What is wrong with a script.
+//! What is wrong with a script, or a schedule.
 
-ghost use Rattle.std.specs.Prelude.{◌≡◌};
-ghost use Rattle.script_read.specs.declared.fault.ParseError.TheVariants as errors;
-
-use sm_ports::Failed;
-use std::alloc::AllocError;
+use reader_answers::{Fault, FileError};
 use thiserror::Error;
 
 /// What is wrong with a line, in the order in which it is tested.
@@ -44,38 +40,20 @@ pub enum ScriptFault {
     NotBuilt { line: u32 },
 }
 
-/// Why bytes were not read as a script.
-#[derive(Debug, Drop)]
-pub enum ParseError {
-    /// The bytes are no script.
-    Fault(ScriptFault),
-    /// There was no memory for the lines.
-    Memory,
+/// What is wrong with a schedule: the offset of its first item that is none, or `SCHEDULE_LIMIT` where it
+/// has more bytes than that, which comes before all else.
+#[derive(Debug, Drop, Error)]
+#[error("schedule at {at}")]
+pub struct ScheduleFault {
+    pub at: u32,
 }
 
-impl From<AllocError> for ParseError {
-    ghost from_gives = { λ _ error. error ≡ errors.Memory };
+impl Fault for ScriptFault {}
 
-    fn from(_error: AllocError) -> ParseError {
-        ParseError::Memory
-    }
-}
-
-impl From<ScriptFault> for ParseError {
-    ghost from_gives = { λ fault error. error ≡ errors.Fault fault };
-
-    fn from(fault: ScriptFault) -> ParseError {
-        ParseError::Fault(fault)
-    }
-}
+impl Fault for ScheduleFault {}
 
 /// Why a script was not read.
-#[derive(Debug, Drop)]
-pub enum ScriptError {
-    /// The file's bytes are no script.
-    Fault(ScriptFault),
-    /// The depot failed, and has counted a fault of the file's name.
-    Read(Failed),
-    /// There was no memory for the bytes or the lines.
-    Memory,
-}
+pub type ScriptError = FileError<ScriptFault>;
+
+/// Why a schedule was not read.
+pub type ScheduleError = FileError<ScheduleFault>;

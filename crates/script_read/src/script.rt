@@ -3,15 +3,18 @@
 ghost use Rattle.std.specs.Prelude.{◌≡◌, ◌≤◌, ℕ, List, length, Ok, Err, IfOk, IfSome};
 ghost use Rattle.mon_types.specs.declared.script.Line.{Line};
 ghost use Rattle.sm_ports.specs.Causes.{Rose};
+ghost use Rattle.reader_answers.specs.declared.errors.FileError.TheVariants as errors;
+ghost use Rattle.reader_answers.specs.Answers.{Gives, FileFound, FileOnly, FileExact};
 ghost use Rattle.script_read.specs.Grammar.{limit, IsScript};
 ghost use Rattle.script_read.specs.Reading.{all_said, script_of};
-ghost use Rattle.script_read.specs.Answers.{Gives, FileFound, FileOnly, FileExact, widened, AreFew, HaveFewTurns, HasCount};
+ghost use Rattle.script_read.specs.Answers.{AreFew, HaveFewTurns, HasCount};
 ghost use Rattle.script_read.specs.Drafts.{Drafts};
 
 use crate::draft::Draft;
-use crate::fault::{ParseError, ScriptError, ScriptFault};
+use crate::fault::{ScriptError, ScriptFault};
 use crate::line::read_line;
 use mon_types::Script;
+use reader_answers::{ParseError, widen};
 use sm_ports::{Depot, Failed, ReadError, read_file};
 use std::alloc::Global;
 use text_in::next_line;
@@ -36,13 +39,13 @@ pub fn read_script<D: Depot>(
     cores: Option<u8>,
 ) -> Result<Script, ScriptError>
     requires { IfSome cores (λ count. 1 ≤ count) }
-    ensures found { FileFound (D.contents depot.old name.now) cores result }
-    ensures only { FileOnly (D.contents depot.old name.now) cores result }
-    ensures exact { FileExact (D.contents depot.old name.now) cores result }
+    ensures found { FileFound (IsScript cores) (λ s. s.cores) (D.contents depot.old name.now) result }
+    ensures only { FileOnly (IsScript cores) (λ s. s.cores) (D.contents depot.old name.now) result }
+    ensures exact { FileExact (script_of cores) (λ s. s.cores) (D.contents depot.old name.now) result }
     ensures count { IfOk result (λ s. HasCount cores s.cores) }
     ensures few { IfOk result (λ s. AreFew s.cores) }
     ensures turns { IfOk result (λ s. HaveFewTurns s.cores) }
-    ensures read { (failed : Failed) → result ≡ Err (ScriptError.Read failed) → Rose (D.faults depot.old name.now) (D.faults depot.new name.now) }
+    ensures read { (failed : Failed) → result ≡ Err (errors.Read failed) → Rose (D.faults depot.old name.now) (D.faults depot.new name.now) }
     ensures contents { D.contents depot.new ≡ D.contents depot.old }
     ensures later { (other : List ℕ) → D.faults depot.old other ≤ D.faults depot.new other }
 {
@@ -56,11 +59,11 @@ fn read<D: Depot>(
     cores: Option<u8>,
 ) -> Result<Script, ScriptError>
     requires { IfSome cores (λ count. 1 ≤ count) }
-    ensures exact { FileExact (D.contents depot.old name.now) cores result }
+    ensures exact { FileExact (script_of cores) (λ s. s.cores) (D.contents depot.old name.now) result }
     ensures count { IfOk result (λ s. HasCount cores s.cores) }
     ensures few { IfOk result (λ s. AreFew s.cores) }
     ensures turns { IfOk result (λ s. HaveFewTurns s.cores) }
-    ensures read { (failed : Failed) → result ≡ Err (ScriptError.Read failed) → Rose (D.faults depot.old name.now) (D.faults depot.new name.now) }
+    ensures read { (failed : Failed) → result ≡ Err (errors.Read failed) → Rose (D.faults depot.old name.now) (D.faults depot.new name.now) }
     ensures contents { D.contents depot.new ≡ D.contents depot.old }
     ensures later { (other : List ℕ) → D.faults depot.old other ≤ D.faults depot.new other }
 {
@@ -71,23 +74,17 @@ fn read<D: Depot>(
     }
 }
 
-fn widen(parsed: Result<Script, ParseError>) -> Result<Script, ScriptError>
-    ensures { result ≡ widened parsed }
-{
-    match parsed {
-        Ok(script) => Ok(script),
-        Err(ParseError::Fault(fault)) => Err(ScriptError::Fault(fault)),
-        Err(ParseError::Memory) => Err(ScriptError::Memory),
-    }
-}
-
 /// Reads a script from its bytes. Where a count of cores is given, at least 1, the script has a list of
 /// lines for each core below it; where none is given, for each core from 0 up to the greatest that it
 /// names, or for core 0 alone.
 ///
 /// `ParseError::Fault` is the first fault of the bytes; it comes only where they are outside the
 /// grammar or more than `LIMIT`, and always there unless memory runs out.
-pub fn parse_script(alloc: Global, bytes: &[u8], cores: Option<u8>) -> Result<Script, ParseError>
+pub fn parse_script(
+    alloc: Global,
+    bytes: &[u8],
+    cores: Option<u8>,
+) -> Result<Script, ParseError<ScriptFault>>
     requires { IfSome cores (λ count. 1 ≤ count) }
     // What is read is in the grammar.
     ensures found { IfOk result (λ s. IsScript cores bytes.now s.cores) }
@@ -103,7 +100,7 @@ pub fn parse_script(alloc: Global, bytes: &[u8], cores: Option<u8>) -> Result<Sc
 }
 
 #[tactic(auto, unfolding(crate::specs::Reading::script_of))]
-fn parse(alloc: Global, bytes: &[u8], cores: Option<u8>) -> Result<Script, ParseError>
+fn parse(alloc: Global, bytes: &[u8], cores: Option<u8>) -> Result<Script, ParseError<ScriptFault>>
     requires { IfSome cores (λ count. 1 ≤ count) }
     ensures exact { Gives (λ s. s.cores) result (script_of cores bytes.now) }
     ensures few { IfOk result (λ s. AreFew s.cores) }
@@ -116,7 +113,7 @@ fn parse(alloc: Global, bytes: &[u8], cores: Option<u8>) -> Result<Script, Parse
 }
 
 /// What the lines say, where cores are below `count`.
-fn read_lines(alloc: Global, bytes: &[u8], count: u8) -> Result<Draft, ParseError>
+fn read_lines(alloc: Global, bytes: &[u8], count: u8) -> Result<Draft, ParseError<ScriptFault>>
     requires bytes { length bytes.now ≤ limit }
     requires count { 1 ≤ count }
     ensures { Drafts count result (all_said count bytes.now) }

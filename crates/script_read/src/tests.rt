@@ -2,8 +2,9 @@
 
 ghost use Rattle.std.specs.Prelude.{◌≤◌, IfSome};
 
-use crate::{LIMIT, ParseError, ScriptError, parse_script, read_script};
+use crate::{LIMIT, ScriptError, parse_script, read_script};
 use mon_types::{Call, Line, OS_WORD};
+use reader_answers::ParseError;
 use sm_ports::MapDepot;
 use std::alloc::{AllocError, Global};
 use std::test::Fail;

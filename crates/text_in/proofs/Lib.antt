@@ -5,4 +5,3 @@ pub mod Words
 pub mod Digits
 pub mod Numbers
 pub mod Decimals
-pub mod Files

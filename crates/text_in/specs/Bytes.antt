@@ -40,6 +40,18 @@ is_space b = b == 32
 abbrev pub is_no_space : ℕ → Bool
 is_no_space b = not (is_space b)
 
+-- a space, a tab, a return or a line feed
+abbrev pub is_gap : ℕ → Bool
+is_gap b = is_blank b || is_return b || is_line_feed b
+
+-- a byte that is no gap
+abbrev pub is_no_gap : ℕ → Bool
+is_no_gap b = not (is_gap b)
+
+-- a star
+abbrev pub is_star : ℕ → Bool
+is_star b = b == 42
+
 -- a comma
 abbrev pub is_comma : ℕ → Bool
 is_comma b = b == 44

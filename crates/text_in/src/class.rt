@@ -19,6 +19,12 @@ pub enum Class {
     Solid,
     /// No space.
     NoSpace,
+    /// A space, a tab, a return or a line feed.
+    Gap,
+    /// No gap.
+    NoGap,
+    /// `*`.
+    Star,
     Comma,
     /// `(`.
     Open,
@@ -36,6 +42,9 @@ impl Class {
             Class::Blank => byte == b' ' || byte == b'\t',
             Class::Solid => !(byte == b' ' || byte == b'\t'),
             Class::NoSpace => byte != b' ',
+            Class::Gap => matches!(byte, b' ' | b'\t' | b'\r' | b'\n'),
+            Class::NoGap => !matches!(byte, b' ' | b'\t' | b'\r' | b'\n'),
+            Class::Star => byte == b'*',
             Class::Comma => byte == b',',
             Class::Open => byte == b'(',
             Class::EndsName => !is_name_byte(byte),

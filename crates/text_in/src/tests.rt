@@ -75,5 +75,10 @@ fn the_parts_round_a_class(rt: HostRuntime) -> Result<(), Fail> {
     assert_eq!(rt; Class::EndsName.before(b"a_1:"), b"a_1".as_slice());
     assert_eq!(rt; Class::Open.from(b"8(x2)"), b"(x2)".as_slice());
     assert_eq!(rt; Class::NoSpace.up_to_last(b"x2  "), b"x2".as_slice());
+    assert_eq!(rt; Class::NoGap.from(b"\t \r\n1*2"), b"1*2".as_slice());
+    for text in [b"1*2 3".as_slice(), b"1*2\t", b"1*2\r", b"1*2\n"] {
+        assert_eq!(rt; Class::Gap.before(text), b"1*2".as_slice());
+    }
+    assert_eq!(rt; Class::Star.split(b"1*2*3").1, b"*2*3".as_slice());
     Ok(())
 }

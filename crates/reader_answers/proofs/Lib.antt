@@ -1,0 +1,4 @@
+pub mod Cut
+pub mod Steps
+pub mod Parsed
+pub mod Files
