@@ -12,9 +12,10 @@ use Rattle.hist.specs.History.{digest_of}
 use Rattle.dram_map.specs.Words.{word_at}
 use Rattle.core_context.specs.declared.after.After.TheVariants as afters
 use Rattle.core_context.specs.Changes.{ok_change}
-use Rattle.solo.specs.declared.origin.Origin.{Origin}
+use Rattle.core_context.specs.declared.origin.Origin.{Origin}
 use Rattle.solo.specs.Core.{Core}
-use Rattle.solo.specs.Calls.{pte_places, source_words, page_input, digest_for, stored, contexts_by, guest_after, called}
+use Rattle.solo.specs.Calls.{pte_places, source_words, page_input, digest_for, stored, guest_after, called}
+use Rattle.core_context.specs.Origins.{contexts_by}
 use Rattle.solo.proofs.Done.{digest_is}
 
 -- the parts of a core after a call, where the places, the page, the reply and the tried objects are these

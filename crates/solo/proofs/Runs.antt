@@ -37,8 +37,8 @@ use Rattle.core_access.specs.Causes.{misaligned, illegal_instruction, is_aligned
 use Rattle.core_access.specs.Words.{place_in, instruction_at, stored_in}
 use Rattle.core_context.specs.Registers.{saved_context}
 use Rattle.core_context.specs.GuestCalls.{asked_call}
-use Rattle.solo.specs.declared.origin.Origin.{Origin}
-use Rattle.solo.specs.declared.origin.Origin.TheVariants as origins
+use Rattle.core_context.specs.declared.origin.Origin.{Origin}
+use Rattle.core_context.specs.declared.origin.Origin.TheVariants as origins
 use Rattle.solo.specs.Core.{Core, core_start, mode_now, chosen, logged, given}
 use Rattle.solo.specs.Calls.{pte_places, page_input, digest_for, entry_of, called, ticked}
 use Rattle.solo.specs.Translation.{Reached, accessed}

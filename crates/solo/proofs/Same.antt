@@ -23,7 +23,8 @@ use Rattle.core_access.specs.Looks.{owned_since}
 use Rattle.core_access.specs.Touched.{is_touched}
 use Rattle.core_access.specs.Words.{place_in}
 use Rattle.solo.specs.Core.{Core, mode_now, given}
-use Rattle.solo.specs.Translation.{region_under, with_touch_if_good, looked, is_good_look, filling, at_page, arrived, pte_loaded, at_pte, descended_from, descended, Descended, descended_on, next_level, arrived_by, walked, bare, translated_by, route_now, or_translated, accessed}
+use Rattle.sv39_walk.specs.Walking.{bare}
+use Rattle.solo.specs.Translation.{region_under, with_touch_if_good, looked, is_good_look, filling, at_page, arrived, pte_loaded, at_pte, descended_from, descended, Descended, descended_on, next_level, arrived_by, walked, translated_by, route_now, or_translated, accessed}
 
 -- the entries of a log with one more event
 pub grown : (log : List Event) (event : Event) → entries_of (log ++ event ∷ []) ≡ entries_of log ++ entry_in event

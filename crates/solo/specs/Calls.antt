@@ -1,12 +1,11 @@
 -- A monitor call of the one core: its entry, what it loads and stores, and what it makes of the core; how guest code
 -- makes one, and how an enclave is left by a trap or a tick. This project's own.
-use Rattle.std.specs.Prelude.{ℕ, ◌+◌, Bool, true, false, if◌then◌else◌, List, [], ◌∷◌, ◌++◌, map, length, replicate, slice_index, Option, Some, None}
+use Rattle.std.specs.Prelude.{ℕ, ◌+◌, if◌then◌else◌, List, [], ◌∷◌, ◌++◌, map, length, replicate, Option, Some, None}
 use Rattle.mon_types.specs.Shape.{Shape}
 use Rattle.mon_types.specs.declared.thread.Mode.{Mode}
 use Rattle.mon_types.specs.declared.thread.Mode.TheVariants as modes
 use Rattle.mon_types.specs.declared.call.Call.{Call}
 use Rattle.mon_types.specs.declared.call.Call.TheVariants as calls
-use Rattle.mon_types.specs.declared.reply.Reply.{Reply}
 use Rattle.mon_types.specs.Replies.{is_done}
 use Rattle.mon_model.specs.State.{enclave_at}
 use Rattle.mon_model.specs.Step.{reply_of, after}
@@ -15,20 +14,17 @@ use Rattle.mon_model.specs.Measure.{page_digest}
 use Rattle.hist.specs.declared.event.PageInput.{PageInput}
 use Rattle.hist.specs.declared.event.Entry.{Entry}
 use Rattle.hist.specs.declared.event.Event.TheVariants as events
-use Rattle.core_context.specs.declared.after.After.{After}
-use Rattle.core_context.specs.declared.contexts.Contexts.{Contexts}
-use Rattle.core_context.specs.declared.contexts.Leaving.{Leaving}
-use Rattle.core_context.specs.declared.contexts.Leaving.TheVariants as leavings
+use Rattle.core_context.specs.declared.origin.Origin.{Origin}
+use Rattle.core_context.specs.declared.origin.Origin.TheVariants as origins
 use Rattle.core_context.specs.Registers.{saved_context}
-use Rattle.core_context.specs.Changes.{change_after, contexts_after}
-use Rattle.core_context.specs.GuestCalls.{asked_call, answered}
+use Rattle.core_context.specs.Changes.{change_after}
+use Rattle.core_context.specs.GuestCalls.{asked_call}
+use Rattle.core_context.specs.Origins.{is_by_line, contexts_by}
 use Rattle.mon_types.specs.Budgets.{tick_cause}
 use Rattle.dram_map.specs.Words.{word_at, word_put, words_of_page, page_copied, region_cleared}
 use Rattle.sv39_pte.specs.Tables.{last_place, pointer_pte, leaf_pte}
 use Rattle.mon_enclaves.specs.LoadReply.{slot_of, call_path, reads_ptes}
 use Rattle.solo.specs.declared.guest.Guest.{Guest}
-use Rattle.solo.specs.declared.origin.Origin.{Origin}
-use Rattle.solo.specs.declared.origin.Origin.TheVariants as origins
 use Rattle.solo.specs.Core.{Core, cleared}
 
 -- ---- the entry
@@ -103,34 +99,6 @@ stored shape (calls.Reserve e va page perms) places words = pte_put words places
 stored shape _ places words = words
 
 -- ---- what it makes of the core
-
--- whether a line of the script makes the call
-abbrev pub is_by_line : Origin → Bool
-is_by_line origins.Line = true
-is_by_line origins.Guest = false
-is_by_line (origins.Machine value) = false
-
--- the value that goes with the cause of an exit that the machine makes
-abbrev pub exit_value : Origin → ℕ
-exit_value origins.Line = 0
-exit_value origins.Guest = 0
-exit_value (origins.Machine value) = value
-
--- how the call leaves an enclave, if it leaves one: an aex with the cause that it saves
-abbrev pub leaving_of : Origin → Call → Leaving
-leaving_of origin (calls.Aex saved) = leavings.Aex (slice_index saved 32) (exit_value origin)
-leaving_of origin _ = leavings.Exit
-
--- the contexts, where guest code is told what its call did and the reply; who else calls is told nothing
-abbrev pub told : Origin → After → Reply → Contexts → Contexts
-told origins.Line change reply contexts = contexts
-told origins.Guest change reply contexts = answered contexts change reply
-told (origins.Machine value) change reply contexts = contexts
-
--- the contexts after a call that did this to its core, and its reply
-abbrev pub contexts_by : Origin → Call → After → Reply → Contexts → Contexts
-contexts_by origin call change reply contexts =
-    told origin change reply (contexts_after contexts change (leaving_of origin call))
 
 -- What Ok of a call leaves for accesses and guest code: flush, enter, exit, aex and set_satp clear translations and
 -- touches, enter decides who entered, and set_satp sets satp.

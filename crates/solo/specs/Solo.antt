@@ -1,13 +1,12 @@
 -- The machine of one core, said directly: what a script makes of an image, line by line and turn by turn, with the
 -- sequential monitor for calls, one list of words for DRAM, and two counts for the budget. It has no moves and no
 -- locks. This project's own.
-use Rattle.std.specs.Prelude.{ℕ, zero, suc, ◌+◌, ◌-◌, Bool, true, false, nat_lt, ◌||◌, if◌then◌else◌, List, [], ◌∷◌, length, Result, Ok, Err}
+use Rattle.std.specs.Prelude.{ℕ, zero, suc, ◌+◌, ◌-◌, Bool, true, false, if◌then◌else◌, List, [], ◌∷◌, length, Result, Ok, Err}
 use Rattle.mon_types.specs.declared.image.Image.{Image}
 use Rattle.mon_types.specs.declared.thread.Mode.{Mode}
-use Rattle.mon_types.specs.declared.thread.Mode.TheVariants as modes
 use Rattle.mon_types.specs.declared.script.Line.{Line}
 use Rattle.mon_types.specs.declared.script.Line.TheVariants as lines
-use Rattle.mon_types.specs.Budgets.{event_budget, answer_budget, line_events, line_answers}
+use Rattle.mon_types.specs.Budgets.{event_budget}
 use Rattle.hist.specs.declared.event.Event.TheVariants as events
 use Rattle.hist.specs.declared.event.Why.TheVariants as whys
 use Rattle.hist.specs.declared.finished.Finished.{Finished}
@@ -16,8 +15,10 @@ use Rattle.dram_map.specs.Words.{word_at}
 use Rattle.sv39_pte.specs.declared.pte.Access.TheVariants as accesses
 use Rattle.core_access.specs.Causes.{misaligned, is_aligned}
 use Rattle.core_access.specs.Words.{place_in}
-use Rattle.solo.specs.declared.origin.Origin.TheVariants as origins
-use Rattle.solo.specs.Core.{Core, core_start, mode_now, chosen, logged, given, set_register, go_to}
+use Rattle.core_context.specs.declared.origin.Origin.TheVariants as origins
+use Rattle.core_context.specs.Budgets.{is_spent_by}
+use Rattle.core_context.specs.Lines.{pc_by, reg_by}
+use Rattle.solo.specs.Core.{Core, core_start, mode_now, chosen, logged, given, with_current, set_register}
 use Rattle.solo.specs.Calls.{called, ticked}
 use Rattle.solo.specs.Translation.{accessed}
 use Rattle.solo.specs.Turns.{Turned, trapped, put, turned}
@@ -35,8 +36,7 @@ continues c = record { core = c; over = false }
 
 -- whether too little is left of a budget for one more line or turn
 abbrev pub is_spent : Core → Bool
-is_spent c =
-    nat_lt (event_budget - length c.log) line_events || nat_lt (answer_budget - length c.answers) line_answers
+is_spent c = is_spent_by (length c.log) (length c.answers)
 
 -- a Limit at line n ends the script
 abbrev pub limited : ℕ → Core → Lined
@@ -72,15 +72,13 @@ word_stored n c va value =
 
 -- ---- the lines `pc` and `reg`
 
--- the pc is set for the OS alone
+-- the pc is set, for the OS alone
 abbrev pub pc_set : Mode → Core → ℕ → Core
-pc_set modes.Os c pc = go_to c pc
-pc_set (modes.Inside e t) c pc = c
+pc_set mode c pc = with_current c (pc_by mode c.contexts.current pc)
 
 -- and a register
 abbrev pub reg_set : Mode → Core → ℕ → ℕ → Core
-reg_set modes.Os c x value = set_register c x value
-reg_set (modes.Inside e t) c x value = c
+reg_set mode c x value = with_current c (reg_by mode c.contexts.current x value)
 
 -- ---- the line `run`
 

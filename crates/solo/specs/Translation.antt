@@ -16,7 +16,7 @@ use Rattle.sv39_pte.specs.declared.pte.Access.{Access}
 use Rattle.sv39_walk.specs.declared.walk.WalkState.{WalkState}
 use Rattle.sv39_walk.specs.declared.walk.WalkState.TheVariants as states
 use Rattle.sv39_walk.specs.Relation.{vpn_of}
-use Rattle.sv39_walk.specs.Walking.{Walking, begun, answered}
+use Rattle.sv39_walk.specs.Walking.{Walking, begun, answered, bare}
 use Rattle.tlb.specs.declared.entry.Entry.{Entry}
 use Rattle.tlb.specs.Cache.{entry_of, page_for, filled}
 use Rattle.tlb.specs.Sets.{by_set}
@@ -142,10 +142,6 @@ walked c permitted va access w =
     arrived_by permitted va access bottom.core bottom.walk
 
 -- ---- translation
-
--- Bare translates an address to itself with all permissions
-abbrev pub bare : ℕ → WalkState
-bare va = states.Found (vpn_of va) true true true
 
 -- an address is translated so, for regions of the permitted owner
 abbrev pub translated_by : Core → Owner → ℕ → Access → Paging → Reached

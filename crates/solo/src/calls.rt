@@ -11,13 +11,13 @@ ghost use Rattle.dram_map.specs.Words.{word_at};
 ghost use Rattle.mon_types.specs.Budgets.{event_budget, answer_budget};
 ghost use Rattle.solo.specs.Bounds.{call_answers};
 ghost use Rattle.mon_types.specs.Sizes.{page_words};
-ghost use Rattle.solo.specs.Calls.{source_words, page_input, pte_put, stored, leaving_of, told, contexts_by, called, guest_called, exited};
+ghost use Rattle.core_context.specs.Origins.{leaving_of, told, contexts_by};
+ghost use Rattle.solo.specs.Calls.{source_words, page_input, pte_put, stored, called, guest_called, exited};
 
 use crate::answers::Answers;
 use crate::one_core::OneCore;
-use crate::origin::Origin;
 use crate::ptes::{page_number, places_read};
-use core_context::{After, Contexts, Leaving};
+use core_context::{After, Contexts, Leaving, Origin};
 use dram_map::Memory;
 use hist::{Entry, Event, PageInput};
 use mon_calls::core_change;

@@ -2,10 +2,11 @@
 
 ghost use Rattle.std.specs.Prelude.{◌≡◌, ◌≤◌, [], length, IfOk};
 ghost use Rattle.solo.specs.Core.{guest_start, without_translations, cleared};
-ghost use Rattle.solo.specs.Calls.{is_by_line, guest_after};
+ghost use Rattle.core_context.specs.Origins.{is_by_line};
+ghost use Rattle.solo.specs.Calls.{guest_after};
 
-use crate::origin::Origin;
 use core_access::Touches;
+use core_context::Origin;
 use mon_types::Call;
 use std::alloc::{AllocError, Global};
 use tlb::Tlb;

@@ -10,7 +10,6 @@ mod guest_tests;
 mod lines;
 mod looks;
 mod one_core;
-mod origin;
 mod ptes;
 mod run;
 #[cfg(test)]

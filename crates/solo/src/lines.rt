@@ -8,8 +8,8 @@ ghost use Rattle.solo.specs.Calls.{ticked};
 ghost use Rattle.solo.specs.Solo.{word_loaded, word_stored, pc_set, reg_set, is_spent, limited, turns, core_after, core_from};
 
 use crate::one_core::OneCore;
-use crate::origin::Origin;
 use core_access::{is_aligned, misaligned, place_in};
+use core_context::Origin;
 use hist::{Event, Why};
 use mon_types::{ANSWER_BUDGET, LINE_ANSWERS, LINE_EVENTS, Line, Mode, TICK_CAUSE};
 use sv39_pte::Access;

@@ -4,7 +4,8 @@ ghost use Rattle.std.specs.Prelude.{◌≡◌, ◌+◌, ◌<◌, ◌≤◌, leng
 ghost use Rattle.mon_types.specs.Budgets.{event_budget, answer_budget};
 ghost use Rattle.core_access.specs.Routes.{HasRoot};
 ghost use Rattle.solo.specs.Bounds.{access_answers, access_events};
-ghost use Rattle.solo.specs.Translation.{arrived, descended, walked, bare, translated_by, space_in, route_now, translated, accessed};
+ghost use Rattle.sv39_walk.specs.Walking.{bare};
+ghost use Rattle.solo.specs.Translation.{arrived, descended, walked, translated_by, space_in, route_now, translated, accessed};
 
 use crate::one_core::OneCore;
 use core_access::{Paging, Route, Space, access_fault, page_fault, place_in};

@@ -1,6 +1,6 @@
 -- The walk as it is made, one page-table entry (pte) after the other: what is left of it at each moment. This
 -- project's own. The laws say that it is the relation of all levels.
-use Rattle.std.specs.Prelude.{ℕ, ◌-◌, ◌<◌, ⊤, if◌then◌else◌}
+use Rattle.std.specs.Prelude.{ℕ, ◌-◌, ◌<◌, ⊤, true, if◌then◌else◌}
 use Rattle.mon_types.specs.declared.thread.Mode.{Mode}
 use Rattle.sv39_pte.specs.declared.pte.Access.{Access}
 use Rattle.sv39_pte.specs.declared.pte.Kind.{Kind}
@@ -8,7 +8,7 @@ use Rattle.sv39_pte.specs.declared.pte.Kind.TheVariants as kinds
 use Rattle.sv39_pte.specs.Pte.{classified}
 use Rattle.sv39_walk.specs.declared.walk.WalkState.{WalkState}
 use Rattle.sv39_walk.specs.declared.walk.WalkState.TheVariants as states
-use Rattle.sv39_walk.specs.Relation.{is_canonical, pte_address, page_in_leaf}
+use Rattle.sv39_walk.specs.Relation.{vpn_of, is_canonical, pte_address, page_in_leaf}
 
 -- What is left of a walk: the address, the access and its mode, where it stands, and the level of the table whose pte
 -- it asks for, or asked for last.
@@ -57,3 +57,7 @@ abbrev pub HasLevelBelow : Kind → ℕ → Type 0
 HasLevelBelow (kinds.Pointer ppn) level = 0 < level
 HasLevelBelow (kinds.Leaf ppn load store fetch) level = ⊤
 HasLevelBelow kinds.Fault level = ⊤
+
+-- where Bare, which walks no tables, leads: an address is translated to itself with all permissions
+abbrev pub bare : ℕ → WalkState
+bare va = states.Found (vpn_of va) true true true

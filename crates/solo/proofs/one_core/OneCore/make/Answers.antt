@@ -12,7 +12,8 @@ use Rattle.hist.specs.declared.event.PageInput.{PageInput}
 use Rattle.mon_seq.specs.Sequential.{Sequential}
 use Rattle.mon_seq.specs.declared.begun.Begun.{Begun}
 use Rattle.solo.specs.Core.{Core}
-use Rattle.solo.specs.Calls.{source_words, page_input, stored, contexts_by, called}
+use Rattle.solo.specs.Calls.{source_words, page_input, stored, called}
+use Rattle.core_context.specs.Origins.{contexts_by}
 use Rattle.solo.proofs.Done.{done_in_range, few_answers}
 use Rattle.solo.proofs.Made.{made_so, refused_so}
 use Rattle.solo.proofs.Places.{places_are}

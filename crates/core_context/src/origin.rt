@@ -1,7 +1,7 @@
 //! By whom a monitor call is made.
 
 ghost use Rattle.std.specs.Prelude.{◌≡◌};
-ghost use Rattle.solo.specs.Calls.{is_by_line, exit_value};
+ghost use Rattle.core_context.specs.Origins.{is_by_line, exit_value};
 
 /// By whom a monitor call is made.
 #[derive(Clone, Copy, Debug, PartialEq, Eq)]
