@@ -37,7 +37,8 @@ use Rattle.mon_model.specs.RegionStep.{is_idle}
 use Rattle.mon_records.specs.Answers.{AnswersFor, Answers, freed_where_ok, freed}
 use Rattle.mon_records.specs.AnswerLaws.{WasAnswered, IsFreed}
 use Rattle.mon_model.proofs.Writes.{at_set}
-use Rattle.mon_records.proofs.Members.{In, contains_in, in_contains}
+use Rattle.mon_records.specs.Members.{In}
+use Rattle.mon_records.proofs.Members.{contains_in, in_contains}
 use Rattle.mon_records.proofs.Early.{if_free, done_tries}
 
 -- ---- what is set

@@ -30,7 +30,8 @@ use Rattle.lock_plan.specs.EveryPlan.{tries_held}
 use Rattle.mon_records.specs.EarlyWords.{ReadsOwned, withdrawn_word, withdrawn_words, early_words}
 use Rattle.mon_records.specs.EarlyLaws.{early_regions}
 use Rattle.mon_model.proofs.Writes.{at_set}
-use Rattle.mon_records.proofs.Members.{In, in_contains}
+use Rattle.mon_records.specs.Members.{In}
+use Rattle.mon_records.proofs.Members.{in_contains}
 
 -- ---- words that do not read Owned
 

@@ -1,12 +1,8 @@
--- Members of a list by recursion, and what a list has at a number.
+-- Members of a list by recursion and by number.
 use Rattle.std.proofs.Common.{◌≡◌, ◌⊎◌, inl, inr, ◌<◌, ℕ, zero, suc, List, [], ◌∷◌, length, sym, get_or, set, arith}
 use Rattle.std.specs.List.{Contains}
 use Rattle.mon_model.proofs.Writes.{at_any}
-
--- x is in the list
-abbrev pub In : {X : Type 0} → X → List X → Type 0
-In x [] = ⊥
-In x (y ∷ ys) = (x ≡ y) ⊎ In x ys
+use Rattle.mon_records.specs.Members.{In}
 
 at_number : {X : Type 0} (xs : List X) (x : X) (k : ℕ) → k < length xs → get_or xs k x ≡ x → In x xs
 at_number [] x k l e = absurd (omega arith)

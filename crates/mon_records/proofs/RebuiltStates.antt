@@ -40,7 +40,8 @@ use Rattle.mon_records.specs.Rows.{Found, row_words, objects_of, same_object, wo
 use Rattle.mon_records.specs.Rebuilt.{found_region, found_enclave, found_thread, found_cell, state_of}
 use Rattle.mon_records.specs.WithoutItems.{IsDecidedByRecords}
 use Rattle.mon_records.specs.RebuiltLaws.{IsReadable, AreRowsOf, HasFound, rebuilt}
-use Rattle.mon_records.proofs.Members.{In, contains_in, in_contains}
+use Rattle.mon_records.specs.Members.{In}
+use Rattle.mon_records.proofs.Members.{contains_in, in_contains}
 use Rattle.mon_records.proofs.Items.{same_reply, same_rows, with_items, other_items, with_items_tries, with_items_change}
 
 -- ---- the words that were found
@@ -77,13 +78,13 @@ words_known (p ∷ ps) s o rows h = elim (cases_Bool (same_object p.0 o)) [
 -- ---- the rebuilt records
 
 module _ (s : State) (core : ℕ) (found : Found) (can : IsReadable s) (rows : AreRowsOf s found) where
-  region_known : (r : ℕ) → In (objects.Region r) (objects_of found) → r < s.shape.regions → region_at (rebuilt s core found) r ≡ region_at s r
+  pub region_known : (r : ℕ) → In (objects.Region r) (objects_of found) → r < s.shape.regions → region_at (rebuilt s core found) r ≡ region_at s r
   unfolding state_of row_words
   region_known r h l =
       get_or-map-range_with_len (found_region found) 0 s.shape.regions r r regions.Free l (omega arith)
       ∙ ap region_from (words_known found s (objects.Region r) rows h) ∙ region_back (region_at s r) (can.ranges.region r)
 
-  enclave_known : (e : ℕ) → In (objects.Enclave e) (objects_of found) → e < 8 → enclave_at (rebuilt s core found) e ≡ enclave_at s e
+  pub enclave_known : (e : ℕ) → In (objects.Enclave e) (objects_of found) → e < 8 → enclave_at (rebuilt s core found) e ≡ enclave_at s e
   unfolding state_of row_words
   enclave_known e h l =
       get_or-map-range_with_len (found_enclave s.shape found) 0 8 e e empty_enclave l (omega arith)

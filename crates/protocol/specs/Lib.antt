@@ -1,0 +1,15 @@
+pub mod Places
+pub mod Layout
+pub mod Moves
+pub mod Words
+pub mod CallTree
+pub mod Views
+pub mod Permitted
+pub mod Runs
+pub mod Worlds
+pub mod Right
+pub mod Records
+pub mod Contents
+pub mod Logs
+pub mod Passes
+pub mod Invariant

@@ -1,0 +1,9 @@
+mod Follow
+mod ByHand
+mod ByRight
+mod Passing
+mod Swapping
+mod Listing
+mod Begins
+mod Everywhere
+mod Early

@@ -1,0 +1,13 @@
+pub mod Alone
+pub mod RegionRuns
+pub mod EnclaveRuns
+pub mod LoadRuns
+pub mod ThreadRuns
+pub mod MailRuns
+pub mod Collision
+pub mod Permits
+pub mod Moments
+pub mod Rights
+pub mod Layouts
+pub mod OddRows
+pub mod PassRuns
