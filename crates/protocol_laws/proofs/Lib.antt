@@ -1,0 +1,14 @@
+pub mod Places
+pub mod Agreeing
+pub mod Standing
+pub mod Locking
+pub mod Writing
+pub mod Finishing
+pub mod Deciding
+pub mod Loading
+pub mod LoadCalls
+pub mod LoadSafe
+pub mod Calls
+pub mod Frame
+pub mod Steps
+pub mod Sounds
