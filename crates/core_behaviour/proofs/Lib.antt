@@ -1,0 +1,4 @@
+mod Words
+mod Stopping
+mod Lagging
+pub mod RunLaws

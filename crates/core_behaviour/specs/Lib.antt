@@ -1,0 +1,10 @@
+pub mod Course
+pub mod Core
+pub mod Called
+pub mod Exits
+pub mod Traps
+pub mod Accesses
+pub mod Turns
+pub mod Lines
+pub mod Runs
+pub mod RunLaw

@@ -1,0 +1,6 @@
+pub mod Machines
+pub mod TwoCalls
+pub mod Collision
+pub mod Parts
+pub mod Race
+pub mod Alone
