@@ -35,11 +35,11 @@ pub record IsGathered (s : State) (core : ℕ) (call : Call) (tried : Tried) (he
 some_is : (x y : ObjectId) → Some x ≡ Some y → x ≡ y
 some_is x y e = cc
 
-begins_with : (xs : List ObjectId) (x : ObjectId) → slice_get xs 0 ≡ Some x → (rest : List ObjectId) × (xs ≡ x ∷ rest)
+pub begins_with : (xs : List ObjectId) (x : ObjectId) → slice_get xs 0 ≡ Some x → (rest : List ObjectId) × (xs ≡ x ∷ rest)
 begins_with [] x e = absurd (cc)
 begins_with (y ∷ ys) x e = (ys, ap (λ (z : ObjectId). z ∷ ys) (some_is y x e))
 
-none_left : (xs : List ObjectId) → slice_get xs 0 ≡ None → xs ≡ []
+pub none_left : (xs : List ObjectId) → slice_get xs 0 ≡ None → xs ≡ []
 none_left [] e = refl
 none_left (y ∷ ys) e = absurd (cc)
 

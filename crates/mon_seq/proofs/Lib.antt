@@ -1,4 +1,5 @@
 pub mod Put
 pub mod Gathered
+pub mod Passed
 pub mod Measured
 pub mod Decided

@@ -14,7 +14,7 @@ use mon_types::{Call, Mode, ObjectId, Tried};
 
 impl MonitorState {
     /// Adds the record of an object behind those of its kind.
-    fn take(&self, object: ObjectId, held: &mut Held)
+    pub fn take(&self, object: ObjectId, held: &mut Held)
         requires tables { AreTables self.now }
         requires object { HasObject self.now.shape object }
         requires room { HasRoom held.old object }

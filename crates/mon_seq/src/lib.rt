@@ -13,6 +13,7 @@ mod tables;
 #[cfg(test)]
 mod tests;
 mod turns;
+mod up_to;
 mod words;
 
 pub use begun::Begun;

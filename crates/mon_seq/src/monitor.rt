@@ -7,13 +7,15 @@ ghost use Rattle.mon_model.specs.Step.{reply_of};
 ghost use Rattle.mon_model.specs.Tries.{tries, tried_set};
 ghost use Rattle.mon_seq.specs.Begun.{begun_in};
 ghost use Rattle.mon_seq.specs.Sequential.{then_call, then_skip};
+ghost use Rattle.mon_seq.specs.UpTo.{IsFrontTo};
+ghost use Rattle.std.specs.Bool.{Decides};
 ghost use Rattle.mon_facts.specs.Tables.{AreTables, AreDated};
 ghost use Rattle.mon_facts.specs.Facts.{SetsAreOwned, OwnersAreThere, BlockedAreOlder, EmptyAreBlank, InitializedAreRooted, ThreadsAreCounted, InsideAreRunning, RunningAreInside, InsideAreAlone, RunningAreInitialized, LoadedArePlaced, FactsHold};
 
 use crate::begun::Begun;
 use crate::state::MonitorState;
 use crate::tables::Tables;
-use mon_types::{Call, Config, Enclave, Items, Mode, Region, Reply, Thread, Tried};
+use mon_types::{Call, Config, Enclave, Items, Mode, ObjectId, Region, Reply, Thread, Tried};
 use std::alloc::{AllocError, Global};
 use std::marker::Model;
 
@@ -105,6 +107,15 @@ impl Monitor {
         ensures { result ≡ tried_set (tries self.now.state core call.now) }
     {
         self.state.tries(core, call)
+    }
+
+    /// Whether the objects that such a call would try in the present state, up to this lock, which is one of
+    /// them, are those in these sets.
+    pub fn tries_up_to(&self, core: u8, call: &Call, lock: ObjectId, tried: &Tried) -> bool
+        requires { core < self.now.state.shape.cores }
+        ensures { Decides result (IsFrontTo lock (tries self.now.state core call.now) tried.now) }
+    {
+        self.state.tries_up_to(core, call, lock, tried)
     }
 
     /// Spends the next ticket, and changes nothing else.

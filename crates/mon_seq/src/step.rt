@@ -32,7 +32,7 @@ fn goes_on(call: &Call, by_records: &Reply) -> bool
 
 impl MonitorState {
     /// For whom a core runs.
-    fn mode(&self, core: u8) -> Mode
+    pub fn mode(&self, core: u8) -> Mode
         requires { core < length self.now.modes }
         ensures { result ≡ mode_of self.now core }
     {

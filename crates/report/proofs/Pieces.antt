@@ -1,15 +1,10 @@
 -- The texts of numbered items, and of cores, one after the other.
-use Rattle.std.proofs.Common.{◌≡◌, ℕ, ◌+◌, ◌<◌, ◌≤◌, List, [], ◌∷◌, ◌++◌, length, take, drop, get_or, Option, Result, Ok, Err, IsErr, refl, sym, ap, subst, ◌∙◌, arith, append_assoc, append-nil}
-use Rattle.std.proofs.lemmas.List.{length-append, take-append-le, drop_more, drop_all}
-use Rattle.std.proofs.Math.Seq.{take-append-add}
-use Rattle.std.proofs.KnownBytes.{Appends-nil, Appends-trans}
-use Rattle.std.specs.Io.KnownBytes.{Appends}
-use Rattle.sm_ports.specs.Contents.{AppendsPart}
+use Rattle.std.proofs.Common.{◌≡◌, ℕ, ◌+◌, ◌<◌, ◌≤◌, List, [], ◌∷◌, ◌++◌, length, drop, get_or, refl, sym, ap, ◌∙◌, arith, append-nil}
+use Rattle.std.proofs.lemmas.List.{drop_more, drop_all}
 use Rattle.report.specs.Objects.{numbered}
 use Rattle.std.specs.List.{flat_map}
 use Rattle.mon_types.specs.declared.thread.Mode.{Mode}
 use Rattle.report.specs.Tables.{core_line, core_lines}
-use Rattle.text_out.specs.Written.{Writes}
 
 -- ---- numbered items
 

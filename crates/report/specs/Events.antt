@@ -16,10 +16,14 @@ trap_line line cause value = codes "trap " ++ decimal line ++ spaced cause ++ sp
 unfoldable pub limit_line : ℕ → List ℕ
 limit_line line = codes "limit " ++ decimal line ++ codes "\n"
 
+-- the ticket of a call
+unfoldable pub entry_line : ℕ → List ℕ
+entry_line ticket = codes "entry " ++ decimal ticket ++ codes "\n"
+
 -- the line of an event: the ticket of a call, a touched region with the ticket since when it is owned,
 -- or a stop
 unfoldable pub event_line : Event → List ℕ
-event_line (events.Entry e) = codes "entry " ++ decimal e.ticket ++ codes "\n"
+event_line (events.Entry e) = entry_line e.ticket
 event_line (events.Touch region since) = codes "touch " ++ decimal region ++ spaced since ++ codes "\n"
 event_line (events.Stop line (whys.Trap cause value)) = trap_line line cause value
 event_line (events.Stop line whys.Limit) = limit_line line

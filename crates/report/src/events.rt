@@ -2,7 +2,7 @@
 
 ghost use Rattle.std.specs.Prelude.{◌≡◌};
 ghost use Rattle.hist.specs.declared.event.Event.TheVariants as events;
-ghost use Rattle.report.specs.Events.{event_line, trap_line, limit_line, log_line};
+ghost use Rattle.report.specs.Events.{entry_line, event_line, trap_line, limit_line, log_line};
 
 use hist::{Entry, Event, Why};
 use text_out::Line;
@@ -19,15 +19,23 @@ pub fn line_of_log(core: usize) -> Line
     line
 }
 
+/// The line of a call's ticket in the log of its core.
+#[tactic(auto, unfolding(crate::specs::Events::entry_line))]
+pub fn line_of_ticket(ticket: u32) -> Line
+    ensures { result ≡ entry_line ticket }
+{
+    let mut line = Line::new();
+    line.text("entry ");
+    line.number(u64::from(ticket));
+    line.text("\n");
+    line
+}
+
 #[tactic(auto, unfolding(crate::specs::Events::event_line))]
 fn line_of_entry(entry: &Entry) -> Line
     ensures { result ≡ event_line (events.Entry entry.now) }
 {
-    let mut line = Line::new();
-    line.text("entry ");
-    line.number(u64::from(entry.ticket));
-    line.text("\n");
-    line
+    line_of_ticket(entry.ticket)
 }
 
 #[tactic(auto, unfolding(crate::specs::Events::event_line))]

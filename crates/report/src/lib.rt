@@ -11,4 +11,6 @@ mod tables;
 mod tests;
 mod whole;
 
-pub use whole::report;
+pub use calls::line_of_call;
+pub use events::{line_of_event, line_of_log, line_of_ticket};
+pub use whole::{end, line_of_machine, report, title};

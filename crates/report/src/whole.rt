@@ -19,15 +19,17 @@ use mon_types::{Config, Mode};
 use sm_ports::{Failed, Sink};
 use text_out::{Line, put_line, put_piece};
 
+/// The first line.
 #[tactic(auto, unfolding(crate::specs::Report::title_line))]
-fn title() -> &'static [u8]
+pub fn title() -> &'static [u8]
     ensures { result.now ≡ title_line }
 {
     b"sanctum report 1\n"
 }
 
+/// The last line.
 #[tactic(auto, unfolding(crate::specs::Report::end_line))]
-fn end() -> &'static [u8]
+pub fn end() -> &'static [u8]
     ensures { result.now ≡ end_line }
 {
     b"end\n"
@@ -35,7 +37,7 @@ fn end() -> &'static [u8]
 
 /// The line of a machine.
 #[tactic(auto, unfolding(crate::specs::Report::machine_line))]
-fn line_of_machine(config: &Config) -> Line
+pub fn line_of_machine(config: &Config) -> Line
     ensures { result ≡ machine_line config.now }
 {
     let mut line = Line::new();

@@ -1,0 +1,16 @@
+pub mod Small
+pub mod Plain
+pub mod FormLaw
+pub mod OneVerdict
+pub mod Walk
+pub mod Counting
+pub mod Firsts
+pub mod Placed
+pub mod Marked
+pub mod Decided
+pub mod Named
+pub mod Noted
+pub mod Sought
+pub mod Lists
+pub mod Took
+pub mod Differing

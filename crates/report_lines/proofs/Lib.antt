@@ -1,0 +1,10 @@
+pub mod Told
+pub mod Printed
+pub mod Objects
+pub mod Pages
+pub mod Parts
+pub mod Again
+pub mod Found
+pub mod Events
+pub mod Lined
+pub mod Numbers
