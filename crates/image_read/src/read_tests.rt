@@ -6,6 +6,7 @@ use reader_answers::ParseError;
 use sha2::{Digest, Sha256};
 use sm_ports::{DripDepot, MapDepot};
 use std::alloc::{AllocError, Global};
+use std::process::Abort;
 use std::test::Fail;
 
 /// One core, 8 regions of one page, two segments of 8 and 16 bytes.
@@ -93,6 +94,27 @@ fn an_image_is_read(rt: HostRuntime) -> Result<(), Fail> {
     Ok(())
 }
 
+/// Checks the fault of the bytes with one changed; the empty text where there is none.
+fn check_changed(
+    rt: &impl Abort,
+    alloc: Global,
+    bytes: &[u8],
+    at: usize,
+    byte: u8,
+    want: &str,
+) -> Result<(), Fail> {
+    assert_eq!(rt; changed(alloc, bytes, at, byte)?.as_str(), want);
+    Ok(())
+}
+
+/// Checks that the bytes are the beginning of an image, which is short at their end.
+fn check_short(rt: &impl Abort, alloc: Global, bytes: &[u8]) -> Result<(), Fail> {
+    let n = bytes.len();
+    let want = format!(in alloc; "image short at {n}")?;
+    assert_eq!(rt; fault(alloc, bytes)?.as_str(), want.as_str());
+    Ok(())
+}
+
 #[test]
 fn the_first_fault_is_named(rt: HostRuntime) -> Result<(), Fail> {
     let alloc = rt.alloc();
@@ -135,7 +157,7 @@ fn the_first_fault_is_named(rt: HostRuntime) -> Result<(), Fail> {
         (64, 24, "image short at 88"),
         (7, 2, "image short at 88"),
     ] {
-        assert_eq!(rt; changed(alloc, &PLAIN, at, byte)?.as_str(), want);
+        check_changed(&rt, alloc, &PLAIN, at, byte, want)?;
     }
     assert_eq!(rt; longer(alloc, &PLAIN)?.as_str(), "image trailing at 88");
     Ok(())
@@ -153,7 +175,7 @@ fn a_digest_is_checked(rt: HostRuntime) -> Result<(), Fail> {
         // The second core starts with the digest.
         (8, 16, "image bad field at 32"),
     ] {
-        assert_eq!(rt; changed(alloc, &SEALED, at, byte)?.as_str(), want);
+        check_changed(&rt, alloc, &SEALED, at, byte, want)?;
     }
     assert_eq!(rt; longer(alloc, &SEALED)?.as_str(), "image trailing at 64");
     Ok(())
@@ -164,8 +186,7 @@ fn a_cut_image_is_short(rt: HostRuntime) -> Result<(), Fail> {
     let alloc = rt.alloc();
     for bytes in [PLAIN.as_slice(), SEALED.as_slice()] {
         for n in 0..bytes.len() {
-            let want = format!(in alloc; "image short at {n}")?;
-            assert_eq!(rt; fault(alloc, &bytes[..n])?.as_str(), want.as_str());
+            check_short(&rt, alloc, &bytes[..n])?;
         }
     }
     Ok(())
@@ -220,24 +241,30 @@ fn as_many_parts_as_there_may_be(rt: HostRuntime) -> Result<(), Fail> {
     Ok(())
 }
 
+/// Checks whether a file is read whose depot fails this call.
+fn check_failing_call(rt: &impl Abort, alloc: Global, fails: u32, read: bool) -> Result<(), Fail> {
+    let mut files = Vec::new(alloc);
+    files.push((
+        String::from_str(alloc, "it")?,
+        Vec::from_slice(alloc, &PLAIN)?,
+    ))?;
+    let mut depot = MapDepot::new(files, Vec::from_array(alloc, [fails])?);
+    match read_image(alloc, &mut depot, "it") {
+        Ok(image) => {
+            assert!(rt; read);
+            assert_eq!(rt; image.segments.len(), 2);
+        }
+        Err(ImageError::Read(_)) => assert!(rt; !read),
+        Err(_) => return Err("no fault of the file".into()),
+    }
+    Ok(())
+}
+
 #[test]
 fn files_are_read(rt: HostRuntime) -> Result<(), Fail> {
     let alloc = rt.alloc();
     for (fails, read) in [(0, false), (1, false), (2, true)] {
-        let mut files = Vec::new(alloc);
-        files.push((
-            String::from_str(alloc, "it")?,
-            Vec::from_slice(alloc, &PLAIN)?,
-        ))?;
-        let mut depot = MapDepot::new(files, Vec::from_array(alloc, [fails])?);
-        match read_image(alloc, &mut depot, "it") {
-            Ok(image) => {
-                assert!(rt; read);
-                assert_eq!(rt; image.segments.len(), 2);
-            }
-            Err(ImageError::Read(_)) => assert!(rt; !read),
-            Err(_) => return Err("no fault of the file".into()),
-        }
+        check_failing_call(&rt, alloc, fails, read)?;
     }
     let mut files = Vec::new(alloc);
     files.push((

@@ -4,6 +4,7 @@ use crate::{LIMIT, TraceError, TraceFault, hits, parse_trace, print_tallies, rea
 use reader_answers::ParseError;
 use sm_ports::{DripDepot, Failed, MapDepot, VecSink};
 use std::alloc::{AllocError, Global};
+use std::process::Abort;
 use std::test::Fail;
 
 /// The first faulty line of a trace, 0 where it is too long; None where nothing is wrong with it.
@@ -14,6 +15,17 @@ fn faulty_line(alloc: Global, text: &[u8]) -> Result<Option<u32>, AllocError> {
         Err(ParseError::Fault(TraceFault::BadLine { line })) => Ok(Some(line)),
         Err(ParseError::Memory) => Err(AllocError),
     }
+}
+
+/// Checks the first faulty line of a trace.
+fn check_faulty_line(
+    rt: &impl Abort,
+    alloc: Global,
+    text: &[u8],
+    want: Option<u32>,
+) -> Result<(), Fail> {
+    assert_eq!(rt; faulty_line(alloc, text)?, want);
+    Ok(())
 }
 
 /// Which accesses of a trace are hits, one letter each: `h` for a hit, `m` for a miss.
@@ -133,7 +145,7 @@ fn a_missing_head_is_behind_the_last_line(rt: HostRuntime) -> Result<(), Fail> {
         (b"# nothing\n", 2),
         (b" \t\r\n#\n\n", 4),
     ] {
-        assert_eq!(rt; faulty_line(rt.alloc(), text)?, Some(line));
+        check_faulty_line(&rt, rt.alloc(), text, Some(line))?;
     }
     Ok(())
 }
@@ -146,7 +158,7 @@ fn heads_within_their_limits(rt: HostRuntime) -> Result<(), Fail> {
         b"\r\n# first\n\ncache 0x2 002 0x01 0x0F\n",
         b"cache 32 8 3 9#",
     ] {
-        assert_eq!(rt; faulty_line(rt.alloc(), text)?, None);
+        check_faulty_line(&rt, rt.alloc(), text, None)?;
     }
     Ok(())
 }
@@ -179,7 +191,7 @@ fn heads_outside_them(rt: HostRuntime) -> Result<(), Fail> {
         b"cache -2 1 0 1",
         b"cache 2 1 0 \xC3\xA9",
     ] {
-        assert_eq!(rt; faulty_line(rt.alloc(), text)?, Some(1));
+        check_faulty_line(&rt, rt.alloc(), text, Some(1))?;
     }
     Ok(())
 }
@@ -192,7 +204,7 @@ fn addresses_in_dram(rt: HostRuntime) -> Result<(), Fail> {
         b"cache 2 1 0 1\n 0x0000000000000000080000000\t# the first byte\r\n",
         b"cache 64 16 4 1\n0x803fffff",
     ] {
-        assert_eq!(rt; faulty_line(rt.alloc(), text)?, None);
+        check_faulty_line(&rt, rt.alloc(), text, None)?;
     }
     Ok(())
 }
@@ -216,7 +228,7 @@ fn addresses_that_are_none(rt: HostRuntime) -> Result<(), Fail> {
         // a return is dropped before a line feed alone
         b"cache 2 1 0 1\n0x80000000\r",
     ] {
-        assert_eq!(rt; faulty_line(rt.alloc(), text)?, Some(2));
+        check_faulty_line(&rt, rt.alloc(), text, Some(2))?;
     }
     Ok(())
 }
@@ -228,7 +240,7 @@ fn the_first_faulty_line_decides(rt: HostRuntime) -> Result<(), Fail> {
         (b"\n# \xFF\ncache 2 1 0 1\n\n0x80000000\n\nx\ny", 7),
         (b"cache 2 1 0 1\n0x80000000\n0x80002000\n0x80000000", 3),
     ] {
-        assert_eq!(rt; faulty_line(rt.alloc(), text)?, Some(line));
+        check_faulty_line(&rt, rt.alloc(), text, Some(line))?;
     }
     Ok(())
 }

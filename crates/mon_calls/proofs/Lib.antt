@@ -1,4 +1,4 @@
 -- The lemmas, each file with what it shows at its head.
 mod Puts
 pub mod Said
-mod Leaves
+pub mod Leaves

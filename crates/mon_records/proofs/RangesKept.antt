@@ -188,7 +188,7 @@ root_in : (b : Bool) (page : ℕ) (root : Option ℕ) → page < 2 ^ 16 → IsRo
 root_in true page root l h = l
 root_in false page root l h = h
 
-effect_in : (s : State) (core : ℕ) (call : Call) (digest : List ℕ) (k : ℕ) → s.shape.regions ≤ 64 → page_total s.shape ≤ 1024 → k < 2 ^ 32 → own_slot (mode_of s core) < 8 → IsInRange s.shape call → IsCall call → AreInRange s → AreInRange (effect s core call digest k)
+pub effect_in : (s : State) (core : ℕ) (call : Call) (digest : List ℕ) (k : ℕ) → s.shape.regions ≤ 64 → page_total s.shape ≤ 1024 → k < 2 ^ 32 → own_slot (mode_of s core) < 8 → IsInRange s.shape call → IsCall call → AreInRange s → AreInRange (effect s core call digest k)
 effect_in s core (calls.Block r) digest k few pages b own a c h = set_region _ r _ (blocked_in (region_at s r) k b (h.region r)) (own_in s (mode_of s core) r h)
 effect_in s core (calls.Free r) digest k few pages b own a c h = set_region s r regions.Free tt h
 effect_in s core (calls.Assign r to) digest k few pages b own a c h =

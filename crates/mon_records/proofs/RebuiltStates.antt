@@ -103,7 +103,7 @@ module _ (s : State) (core : ℕ) (found : Found) (can : IsReadable s) (rows : A
       get_or-map-range_with_len (found_cell found) 0 s.shape.cores c c 0 l (omega arith)
       ∙ ap cell_from (words_known found s (objects.Cell c) rows h) ∙ fitting_is (2 ^ 32) (flushed_at s c) (can.ranges.cell c)
 
-known_whole : (m : Shape) (mode : Mode) (found : Found) → IsWhole (state_of m mode found)
+pub known_whole : (m : Shape) (mode : Mode) (found : Found) → IsWhole (state_of m mode found)
 unfolding state_of
 known_whole m mode found = record {
   regions = length-map-range_with_len (found_region found) 0 m.regions;
@@ -114,11 +114,11 @@ known_whole m mode found = record {
   loaded = refl;
 }
 
-known_mode : (m : Shape) (core : ℕ) (mode : Mode) (found : Found) → core < m.cores → mode_of (state_of m mode found) core ≡ mode
+pub known_mode : (m : Shape) (core : ℕ) (mode : Mode) (found : Found) → core < m.cores → mode_of (state_of m mode found) core ≡ mode
 unfolding state_of
 known_mode m core mode found l = get_or-replicate m.cores core mode modes.Os l
 
-known_shape : (m : Shape) (mode : Mode) (found : Found) → (state_of m mode found).shape ≡ m
+pub known_shape : (m : Shape) (mode : Mode) (found : Found) → (state_of m mode found).shape ≡ m
 unfolding state_of
 known_shape m mode found = refl
 

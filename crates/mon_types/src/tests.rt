@@ -5,14 +5,33 @@ use crate::{
     enclave_of, enclave_words, pack_at, pack_lock, pack_own, thread_of, thread_words, unpack_lock,
     unpack_own,
 };
+use std::process::Abort;
 use std::test::Fail;
+
+/// Checks what these two words of a region's table give.
+fn check_own(rt: &impl Abort, word: u64, at: u64, want: Option<Region>) {
+    assert_eq!(rt; unpack_own(word, at), want, "at {word}");
+}
+
+/// Checks that a word is no lock's.
+fn check_no_lock(rt: &impl Abort, word: u64) {
+    assert_eq!(rt; unpack_lock(word), None, "at {word}");
+}
+
+/// Checks that a number of which no call is known makes the call that has it and the arguments.
+fn check_unknown(rt: &impl Abort, number: u64, args: [u64; 6]) {
+    assert_eq!(rt;
+        Call::of_registers(number, args),
+        Call::Unknown { number, args }
+    );
+}
 
 #[test]
 fn locks_and_objects(rt: HostRuntime) {
     assert_eq!(rt; pack_lock(3, 7), 231);
     assert_eq!(rt; unpack_lock(231), Some((3, 7)));
     for word in [0, 230, 137438953473] {
-        assert_eq!(rt; unpack_lock(word), None, "at {word}");
+        check_no_lock(&rt, word);
     }
     assert_eq!(rt; ObjectId::Region(5).number(), 69);
     assert_eq!(rt; ObjectId::Cell(15).number(), 143);
@@ -43,12 +62,12 @@ fn rows_of_regions(rt: HostRuntime) {
         (blocked, 2, 9),
         (offered, 419, 0),
     ] {
-        assert_eq!(rt; unpack_own(word, at), Some(region), "at {word}");
+        check_own(&rt, word, at, Some(region));
     }
     assert_eq!(rt; pack_own(&owned), 333);
     assert_eq!(rt; pack_at(&blocked), 9);
     for (word, at) in [(4, 0), (64, 0), (333, 1), (3, 0), (37, 0), (2, 4294967296)] {
-        assert_eq!(rt; unpack_own(word, at), None, "at {word}");
+        check_own(&rt, word, at, None);
     }
 }
 
@@ -102,10 +121,7 @@ fn calls_of_registers(rt: HostRuntime) {
     let args = [1, 2, 3, 4, 5, 6];
     assert_eq!(rt; Call::of_registers(1, args), Call::Block { r: 1 });
     for number in [0, 15, 24] {
-        assert_eq!(rt;
-            Call::of_registers(number, args),
-            Call::Unknown { number, args }
-        );
+        check_unknown(&rt, number, args);
     }
     assert_eq!(rt; Call::of_registers(16, args).name(), "restore");
     assert_eq!(rt; Call::of_registers(23, args).number(), 23);

@@ -13,4 +13,5 @@ mod whole;
 
 pub use calls::line_of_call;
 pub use events::{line_of_event, line_of_log, line_of_ticket};
-pub use whole::{end, line_of_machine, report, title};
+pub use print::{Print, put_each};
+pub use whole::{end, line_of_machine, put_cores, report, title};

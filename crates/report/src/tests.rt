@@ -19,6 +19,7 @@ use mon_types::{
 };
 use sm_ports::{Failed, VecSink};
 use std::alloc::{AllocError, Global};
+use std::process::Abort;
 use std::test::Fail;
 
 const NONE: Tried = Tried {
@@ -89,6 +90,15 @@ fn an_exit_has_its_words(rt: HostRuntime) {
     );
 }
 
+/// Checks the line of a flush that is refused.
+fn check_refused_flush(rt: &impl Abort, reply: Reply, want: &str) {
+    assert!(rt; !matches!(reply, Reply::Ok { .. }));
+    assert_eq!(rt;
+        line_of_call(&entry(Call::Flush, reply, NONE)).as_slice(),
+        want.as_bytes()
+    );
+}
+
 #[test]
 fn refused_calls(rt: HostRuntime) {
     let load = Call::LoadPage {
@@ -116,11 +126,7 @@ fn refused_calls(rt: HostRuntime) {
             "call 7 core 1 serial 3 flush = unsupported tried\n",
         ),
     ] {
-        assert!(rt; !matches!(reply, Reply::Ok { .. }));
-        assert_eq!(rt;
-            line_of_call(&entry(Call::Flush, reply, NONE)).as_slice(),
-            want.as_bytes()
-        );
+        check_refused_flush(&rt, reply, want);
     }
 }
 
@@ -153,6 +159,11 @@ fn a_loaded_page_has_its_digest(rt: HostRuntime) {
     );
 }
 
+/// Checks the line of an event.
+fn check_event(rt: &impl Abort, event: &Event, want: &str) {
+    assert_eq!(rt; line_of_event(event).as_slice(), want.as_bytes());
+}
+
 #[test]
 fn event_lines(rt: HostRuntime) {
     assert_eq!(rt; line_of_log(15).as_slice(), b"log 15\n".as_slice());
@@ -178,8 +189,18 @@ fn event_lines(rt: HostRuntime) {
         (trap, "trap 2 13 2151686144\n"),
         (limit, "limit 3\n"),
     ] {
-        assert_eq!(rt; line_of_event(&event).as_slice(), want.as_bytes());
+        check_event(&rt, &event, want);
     }
+}
+
+/// Checks the line of region 12.
+fn check_region(rt: &impl Abort, region: &Region, want: &str) {
+    assert_eq!(rt; line_of_region(12, region).as_slice(), want.as_bytes());
+}
+
+/// Checks the line of thread 15, which was saved at ticket 22.
+fn check_thread(rt: &impl Abort, state: ThreadState, want: &str) {
+    assert_eq!(rt; line_of_thread(15, state, 22).as_slice(), want.as_bytes());
 }
 
 #[test]
@@ -202,7 +223,7 @@ fn table_lines(rt: HostRuntime) {
             "region 12 offered e7 at 24\n",
         ),
     ] {
-        assert_eq!(rt; line_of_region(12, &region).as_slice(), want.as_bytes());
+        check_region(&rt, &region, want);
     }
     for (state, want) in [
         (ThreadState::Empty, ""),
@@ -215,7 +236,7 @@ fn table_lines(rt: HostRuntime) {
             "thread 15 running e7 saved 22\n",
         ),
     ] {
-        assert_eq!(rt; line_of_thread(15, state, 22).as_slice(), want.as_bytes());
+        check_thread(&rt, state, want);
     }
     let inside = Mode::Inside {
         enclave: 2,

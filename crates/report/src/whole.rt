@@ -74,8 +74,8 @@ fn put_history<K: Sink>(logs: &[Log], out: &mut K) -> Result<(), Failed>
     Ok(())
 }
 
-/// Puts the lines of the cores.
-fn put_cores<K: Sink>(modes: &[Mode], flushed: &[u32], out: &mut K) -> Result<(), Failed>
+/// Puts the lines of the cores, by number: for whom each runs, and the ticket of its last flush.
+pub fn put_cores<K: Sink>(modes: &[Mode], flushed: &[u32], out: &mut K) -> Result<(), Failed>
     requires { length modes.now ≡ length flushed.now }
     ensures lines { Writes (K.taken out.old) (K.taken out.new) result (core_lines 0 modes.now flushed.now) }
     ensures cause { HasCause (K.faults out.old) (K.faults out.new) result }

@@ -3,6 +3,7 @@
 use crate::{AsmError, LIMIT, assemble, print};
 use rv_decode::decode;
 use std::alloc::{AllocError, Global};
+use std::process::Abort;
 use std::test::Fail;
 
 /// What is wrong with a text; the empty text where nothing is.
@@ -12,6 +13,24 @@ fn fault(alloc: Global, text: &[u8], limit: u32) -> Result<String, AllocError> {
         Err(AsmError::Fault(fault)) => format!(in alloc; "{fault}"),
         Err(AsmError::Memory) => String::from_str(alloc, "no memory"),
     }
+}
+
+/// Checks what is wrong with a text of which four words are wanted at most; the empty text where nothing is.
+fn check_fault(rt: &impl Abort, alloc: Global, text: &[u8], want: &str) -> Result<(), Fail> {
+    assert_eq!(rt; fault(alloc, text, 4)?.as_str(), want);
+    Ok(())
+}
+
+/// Checks that a text is assembled to this one word.
+fn check_word(rt: &impl Abort, alloc: Global, text: &[u8], word: u32) {
+    let words = assemble(alloc, text, 1).expect(rt, "a word");
+    assert_eq!(rt; words.as_slice(), [word].as_slice());
+}
+
+/// Checks how the instruction of a word is printed.
+fn check_print(rt: &impl Abort, word: u32, text: &str) {
+    let inst = decode(word).expect(rt, "an instruction");
+    assert_eq!(rt; print(&inst).as_str(), text);
 }
 
 /// Row `pack-three`, its words.
@@ -49,8 +68,7 @@ fn each_form(rt: HostRuntime) -> Result<(), Fail> {
         (b"sfence.vma x0, x0", 0x12000073),
         (b".word 4294967295", 0xffffffff),
     ] {
-        let words = assemble(alloc, text, 1).expect(&rt, "a word");
-        assert_eq!(rt; words.as_slice(), [word].as_slice());
+        check_word(&rt, alloc, text, word);
     }
     Ok(())
 }
@@ -119,7 +137,7 @@ fn the_first_fault_is_named(rt: HostRuntime) -> Result<(), Fail> {
         ),
         (b".at 12\n.dword 1", "asm line 2 too long"),
     ] {
-        assert_eq!(rt; fault(alloc, text, 4)?.as_str(), want);
+        check_fault(&rt, alloc, text, want)?;
     }
     Ok(())
 }
@@ -153,8 +171,7 @@ fn each_form_is_printed(rt: HostRuntime) -> Result<(), Fail> {
         (0x00100073, "ebreak"),
         (0x12208073, "sfence.vma x1, x2"),
     ] {
-        let inst = decode(word).expect(&rt, "an instruction");
-        assert_eq!(rt; print(&inst).as_str(), text);
+        check_print(&rt, word, text);
     }
     Ok(())
 }

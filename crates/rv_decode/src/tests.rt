@@ -2,6 +2,7 @@
 
 use crate::{BranchOp, ImmOp, Inst, LoadOp, RegOp, StoreOp, UpperOp, decode, encode};
 use rv_ext::{AmoOp, MulOp};
+use std::process::Abort;
 use std::test::Fail;
 
 #[test]
@@ -88,6 +89,14 @@ fn upper(imm: i64) -> Inst {
     }
 }
 
+/// Checks that the word is the instruction, and the instruction the word.
+fn check_both_ways(rt: &impl Abort, word: u32, inst: Inst) -> Result<(), Fail> {
+    let found = decode(word).ok_or("in the table")?;
+    assert_eq!(rt; found, inst, "at {word}");
+    assert_eq!(rt; encode(&found), word, "at {word}");
+    Ok(())
+}
+
 #[test]
 fn edges_of_immediates_and_shifts(rt: HostRuntime) -> Result<(), Fail> {
     for (word, inst) in [
@@ -105,9 +114,7 @@ fn edges_of_immediates_and_shifts(rt: HostRuntime) -> Result<(), Fail> {
         (0x80000037, upper(-2147483648)),
         (0x7ffff037, upper(2147479552)),
     ] {
-        let found = decode(word).ok_or("in the table")?;
-        assert_eq!(rt; found, inst, "at {word}");
-        assert_eq!(rt; encode(&found), word, "at {word}");
+        check_both_ways(&rt, word, inst)?;
     }
     Ok(())
 }
@@ -144,9 +151,7 @@ fn jumps_and_loads_both_ways(rt: HostRuntime) -> Result<(), Fail> {
         (0x003100e7, jalr),
         (0xfff3e303, load),
     ] {
-        let found = decode(word).ok_or("in the table")?;
-        assert_eq!(rt; found, inst, "at {word}");
-        assert_eq!(rt; encode(&found), word, "at {word}");
+        check_both_ways(&rt, word, inst)?;
     }
     Ok(())
 }
@@ -181,9 +186,7 @@ fn registers_atomics_and_system_both_ways(rt: HostRuntime) -> Result<(), Fail> {
         (0x00100073, Inst::Ebreak),
         (0x12628073, Inst::Sfence { rs1: 5, rs2: 6 }),
     ] {
-        let found = decode(word).ok_or("in the table")?;
-        assert_eq!(rt; found, inst, "at {word}");
-        assert_eq!(rt; encode(&found), word, "at {word}");
+        check_both_ways(&rt, word, inst)?;
     }
     Ok(())
 }

@@ -1,7 +1,7 @@
 //! Each kind of fault of a script and of an assembler text at its line, each answer of the top call with its
 //! exit status, and the reads that one file takes.
 
-use crate::tests::{run, words_of};
+use crate::tests::{check_answer, words_of};
 use crate::top::sanctum;
 use sm_ports::{Depot, Failed, OpenGate, VecSink};
 use std::alloc::Global;
@@ -56,10 +56,7 @@ fn check_fault<R: Threads + Sync + Abort>(
     code: u8,
     want: &str,
 ) -> Result<(), Fail> {
-    let (status, out) = run(rt, alloc, words, file.as_bytes(), &[])?;
-    assert_eq!(rt; status.code(), code, "{file}");
-    assert_eq!(rt; out.as_slice(), want.as_bytes(), "{file}");
-    Ok(())
+    check_answer(rt, alloc, file, words, file.as_bytes(), code, want)
 }
 
 #[test]
@@ -106,9 +103,7 @@ fn usage(rt: HostRuntime) -> Result<(), Fail> {
         &["pack", "S", "1", "8", "1", "1"],
         &["pack", "S", "1", "8", "1", "0", "0"],
     ] {
-        let (status, out) = run(&rt, alloc, words, b"", &[])?;
-        assert_eq!(rt; status.code(), 2);
-        assert_eq!(rt; out.as_slice(), "refused: usage\n".as_bytes());
+        check_answer(&rt, alloc, "usage", words, b"", 2, "refused: usage\n")?;
     }
     Ok(())
 }
@@ -145,13 +140,41 @@ impl Depot for NotedDepot {
     }
 }
 
+/// Runs a script of this size, and checks how it ends, that it takes so many reads of whole pieces, each from
+/// where the one before ended, and then the last.
+fn check_reads<R: Threads + Sync + Abort>(
+    rt: &R,
+    alloc: Global,
+    size: u64,
+    whole: u16,
+    last: (u64, usize),
+    code: u8,
+) -> Result<(), Fail> {
+    let whole = usize::from(whole);
+    let mut depot = NotedDepot {
+        size,
+        reads: [(0, 0); NOTED],
+        count: 0,
+    };
+    let mut out = VecSink::new(alloc, 1 << 12, Vec::new(alloc))?;
+    let words = words_of(alloc, &["script", "S"])?;
+    let status = sanctum(rt, alloc, &words, &mut depot, &mut out, &OpenGate);
+    assert_eq!(rt; status.code(), code, "{size}");
+    assert_eq!(rt; depot.count, whole + 1, "{size}");
+    assert_eq!(rt; depot.reads.get(whole).copied(), Some(last), "{size}");
+    for (k, read) in depot.reads.iter().take(whole).enumerate() {
+        assert_eq!(rt; *read, (4096 * k as u64, 4096), "{size}");
+    }
+    Ok(())
+}
+
 /// A file is read in pieces of 4,096 bytes, each from where the last ended, up to its end or to one byte past
 /// the limit.
 #[test]
 fn the_reads_that_one_file_takes(rt: HostRuntime) -> Result<(), Fail> {
     let alloc = rt.alloc();
     for (size, whole, last, code) in [
-        (0, 0u16, (0, 4096), 0),
+        (0, 0, (0, 4096), 0),
         (1, 1, (1, 4096), 0),
         (4096, 1, (4096, 4096), 0),
         (4097, 2, (4097, 4096), 0),
@@ -160,21 +183,7 @@ fn the_reads_that_one_file_takes(rt: HostRuntime) -> Result<(), Fail> {
         (1_048_577, 256, (1_048_576, 1), 4),
         (2_000_000, 256, (1_048_576, 1), 4),
     ] {
-        let whole = usize::from(whole);
-        let mut depot = NotedDepot {
-            size,
-            reads: [(0, 0); NOTED],
-            count: 0,
-        };
-        let mut out = VecSink::new(alloc, 1 << 12, Vec::new(alloc))?;
-        let words = words_of(alloc, &["script", "S"])?;
-        let status = sanctum(&rt, alloc, &words, &mut depot, &mut out, &OpenGate);
-        assert_eq!(rt; status.code(), code, "{size}");
-        assert_eq!(rt; depot.count, whole + 1, "{size}");
-        assert_eq!(rt; depot.reads.get(whole).copied(), Some(last), "{size}");
-        for (k, read) in depot.reads.iter().take(whole).enumerate() {
-            assert_eq!(rt; *read, (4096 * k as u64, 4096), "{size}");
-        }
+        check_reads(&rt, alloc, size, whole, last, code)?;
     }
     Ok(())
 }

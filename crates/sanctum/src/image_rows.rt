@@ -1,7 +1,7 @@
 //! The worked rows of images: their faults, what is read of them when, and how they are converted. The bytes
 //! are put together by hand; digests are those of another program.
 
-use crate::tests::{Files, run_files};
+use crate::tests::{Files, check_bytes, check_files, run_files};
 use std::alloc::Global;
 use std::process::Abort;
 use std::test::Fail;
@@ -47,11 +47,8 @@ fn check_refused<R: Threads + Sync + Abort>(
     want: &str,
 ) -> Result<(), Fail> {
     let files = Files::of_script(b"", image);
-    let (status, out) = run_files(rt, alloc, &["convert", "I"], &files)?;
     let line = format!(in alloc; "refused: image {want}\n")?;
-    assert_eq!(rt; status.code(), 3, "{want}");
-    assert_eq!(rt; out.as_slice(), line.as_bytes(), "{want}");
-    Ok(())
+    check_files(rt, alloc, want, &["convert", "I"], &files, 3, &line)
 }
 
 /// Rows `image-cut`, `digest-faults` and `version-1-core-limit`, and each other kind of fault at its place.
@@ -110,10 +107,8 @@ fn an_image_over_its_limit(rt: HostRuntime) -> Result<(), Fail> {
     let alloc = rt.alloc();
     let zeros = vec![in alloc; 0u8; 4_195_633]?;
     let files = Files::of_script(b"", &zeros);
-    let (status, out) = run_files(&rt, alloc, &["run", "I", "S"], &files)?;
-    assert_eq!(rt; status.code(), 3);
-    assert_eq!(rt; out.as_slice(), "refused: image too long\n".as_bytes());
-    Ok(())
+    let long = "refused: image too long\n";
+    check_files(&rt, alloc, "image-too-long", RUN, &files, 3, long)
 }
 
 /// Row `convert-plain`; an image of either version as its version 2.
@@ -132,14 +127,28 @@ fn images_are_converted(rt: HostRuntime) -> Result<(), Fail> {
     ] {
         let image = hex::decode(alloc, image)?;
         let files = Files::of_script(b"", &image);
-        let (status, out) = run_files(&rt, alloc, &words, &files)?;
-        assert_eq!(rt; status.code(), 0, "{name}");
-        assert_eq!(rt;
-            hex::encode(alloc, out.as_slice())?.as_str(),
-            want,
-            "{name}"
-        );
+        check_bytes(&rt, alloc, name, &words, &files, want)?;
     }
+    Ok(())
+}
+
+/// Runs an image over a depot that fails this call, and checks how it ends, and that the line of a read fault is
+/// printed just where one is answered.
+fn check_failing_read<R: Threads + Sync + Abort>(
+    rt: &R,
+    alloc: Global,
+    image: &[u8],
+    call: u32,
+    code: u8,
+) -> Result<(), Fail> {
+    let files = Files {
+        failing_reads: &[call],
+        ..Files::of_script(b"", image)
+    };
+    let (status, out) = run_files(rt, alloc, RUN, &files)?;
+    assert_eq!(rt; status.code(), code, "{call}");
+    let refused = out.as_slice() == "refused: read fault\n".as_bytes();
+    assert_eq!(rt; refused, code == 5, "{call}");
     Ok(())
 }
 
@@ -149,14 +158,7 @@ fn a_depot_that_fails(rt: HostRuntime) -> Result<(), Fail> {
     let alloc = rt.alloc();
     let image = hex::decode(alloc, TWO_SEGMENTS)?;
     for (call, code) in [(0, 5), (1, 5), (2, 5), (3, 0)] {
-        let files = Files {
-            failing_reads: &[call],
-            ..Files::of_script(b"", &image)
-        };
-        let (status, out) = run_files(&rt, alloc, &["run", "I", "S"], &files)?;
-        assert_eq!(rt; status.code(), code, "{call}");
-        let refused = out.as_slice() == "refused: read fault\n".as_bytes();
-        assert_eq!(rt; refused, code == 5, "{call}");
+        check_failing_read(&rt, alloc, &image, call, code)?;
     }
     Ok(())
 }
@@ -173,10 +175,7 @@ fn check_line<R: Threads + Sync + Abort>(
 ) -> Result<(), Fail> {
     let image = hex::decode(alloc, digits)?;
     let files = Files::of_script(script.as_bytes(), &image);
-    let (status, out) = run_files(rt, alloc, words, &files)?;
-    assert_eq!(rt; status.code(), code, "{want}");
-    assert_eq!(rt; out.as_slice(), want.as_bytes(), "{want}");
-    Ok(())
+    check_files(rt, alloc, want, words, &files, code, want)
 }
 
 const SOLO: &[&str] = &["solo", "I", "S"];

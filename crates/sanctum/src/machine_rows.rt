@@ -176,13 +176,18 @@ fn answers(finished: &Finished) -> &[u64] {
     }
 }
 
+/// Checks that the first enclaves have the measurement of the twins.
+fn check_measures(rt: &impl Abort, finished: &Finished, count: usize) {
+    for enclave in finished.enclaves.as_slice().iter().take(count) {
+        assert_eq!(rt; enclave.measure, MEASURE);
+    }
+}
+
 #[test]
 fn twins_have_one_measurement(rt: HostRuntime) -> Result<(), Fail> {
     let config = Config::new(1, 16, 1, 0);
     let finished = run_on(&rt, rt.alloc(), config, TWINS.as_bytes())?;
-    for enclave in finished.enclaves.as_slice().iter().take(2) {
-        assert_eq!(rt; enclave.measure, MEASURE);
-    }
+    check_measures(&rt, &finished, 2);
     let stored = [
         (1024, 0x2000_0c01),
         (1536, 0x2000_1001),
@@ -217,9 +222,7 @@ fn a_reserved_page_is_stored_to(rt: HostRuntime) -> Result<(), Fail> {
 fn refused_loads_are_given_entries(rt: HostRuntime) -> Result<(), Fail> {
     let config = Config::new(1, 16, 1, 0);
     let finished = run_on(&rt, rt.alloc(), config, REFUSED.as_bytes())?;
-    for enclave in finished.enclaves.as_slice().iter().take(1) {
-        assert_eq!(rt; enclave.measure, MEASURE);
-    }
+    check_measures(&rt, &finished, 1);
     let stored = [
         (1024, 0x2000_0c01),
         (1536, 0x2000_1001),
@@ -267,6 +270,16 @@ fn loaded_and_deleted(alloc: Global) -> Result<String, AllocError> {
     Ok(text)
 }
 
+/// Checks that the last of 2,455 events is a limit at the 500th load_page of the fourth round.
+fn check_stop(rt: &impl Abort, events: &[Event]) {
+    let limit = Event::Stop {
+        line: 3 * 617 + 104 + 500,
+        why: Why::Limit,
+    };
+    assert_eq!(rt; events.len(), 2455);
+    assert_eq!(rt; events.last().copied(), Some(limit));
+}
+
 /// Before the 500th load_page of the fourth round fewer than 600 of 1,048,576 answers are left.
 #[test]
 fn answers_run_out(rt: HostRuntime) -> Result<(), Fail> {
@@ -275,12 +288,7 @@ fn answers_run_out(rt: HostRuntime) -> Result<(), Fail> {
     let finished = run_on(&rt, alloc, Config::new(1, 64, 16, 4), &script)?;
     assert_eq!(rt; answers(&finished).len(), 3 * 263_683 + 3 + 499 * 515);
     for log in finished.logs.as_slice() {
-        let limit = Event::Stop {
-            line: 3 * 617 + 104 + 500,
-            why: Why::Limit,
-        };
-        assert_eq!(rt; log.events().len(), 2455);
-        assert_eq!(rt; log.events().last().copied(), Some(limit));
+        check_stop(&rt, log.events());
     }
     Ok(())
 }

@@ -117,15 +117,27 @@ fn check_row<R: Threads + Sync + Abort>(
     let (front, calls, events) = (bench.head, want.calls.as_str(), want.events.as_str());
     let told = format!(in alloc; "{front}{calls}log 0\n{events}region 0 ")?;
     for command in bench.commands {
-        let (status, out) = run_files(rt, alloc, command, &files)?;
-        assert_eq!(rt; status.code(), 0, "{name}");
-        let text = str::from_utf8(out.as_slice())?;
-        assert!(rt;
-            text.starts_with(told.as_str()),
-            "{name}: not {told} but {text}"
-        );
-        check_tables(rt, lines, text);
+        check_report(rt, alloc, name, command, &files, &told, lines)?;
     }
+    Ok(())
+}
+
+/// Runs the words over files, and checks that the report begins with a text and has the lines of the tables that
+/// the row says.
+fn check_report<R: Threads + Sync + Abort>(
+    rt: &R,
+    alloc: Global,
+    name: &str,
+    words: &[&str],
+    files: &Files<'_>,
+    told: &str,
+    lines: &str,
+) -> Result<(), Fail> {
+    let (status, out) = run_files(rt, alloc, words, files)?;
+    assert_eq!(rt; status.code(), 0, "{name}");
+    let text = str::from_utf8(out.as_slice())?;
+    assert!(rt; text.starts_with(told), "{name}: not {told} but {text}");
+    check_tables(rt, lines, text);
     Ok(())
 }
 

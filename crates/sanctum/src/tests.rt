@@ -6,6 +6,7 @@ use sm_ports::{
     Depot, DripDepot, DripSink, MapDepot, OpenGate, Sink, StillDepot, StillSink, VecSink,
 };
 use std::alloc::{AllocError, Global};
+use std::process::Abort;
 use std::test::Fail;
 use std::thread::Threads;
 
@@ -138,6 +139,56 @@ pub fn run<R: Threads + Sync>(
     run_files(rt, alloc, words, &files)
 }
 
+/// Runs the words over files, and checks the exit status and what is printed. Rows call this, since a proof of
+/// assertions in a loop over a table takes several times as long as of a call.
+pub fn check_files<R: Threads + Sync + Abort>(
+    rt: &R,
+    alloc: Global,
+    name: &str,
+    words: &[&str],
+    files: &Files<'_>,
+    code: u8,
+    want: &str,
+) -> Result<(), Fail> {
+    let (status, out) = run_files(rt, alloc, words, files)?;
+    assert_eq!(rt; status.code(), code, "{name}");
+    assert_eq!(rt; out.as_slice(), want.as_bytes(), "{name}");
+    Ok(())
+}
+
+/// The same over one file, of the name "S".
+pub fn check_answer<R: Threads + Sync + Abort>(
+    rt: &R,
+    alloc: Global,
+    name: &str,
+    words: &[&str],
+    file: &[u8],
+    code: u8,
+    want: &str,
+) -> Result<(), Fail> {
+    let files = Files::of_script(file, b"");
+    check_files(rt, alloc, name, words, &files, code, want)
+}
+
+/// Runs the words over files, and checks that they end well and print the bytes of these hexadecimal digits.
+pub fn check_bytes<R: Threads + Sync + Abort>(
+    rt: &R,
+    alloc: Global,
+    name: &str,
+    words: &[&str],
+    files: &Files<'_>,
+    want: &str,
+) -> Result<(), Fail> {
+    let (status, out) = run_files(rt, alloc, words, files)?;
+    assert_eq!(rt; status.code(), 0, "{name}");
+    assert_eq!(rt;
+        hex::encode(alloc, out.as_slice())?.as_str(),
+        want,
+        "{name}"
+    );
+    Ok(())
+}
+
 #[test]
 fn rows_with_a_report(rt: HostRuntime) -> Result<(), Fail> {
     let alloc = rt.alloc();
@@ -162,15 +213,27 @@ fn rows_with_a_report(rt: HostRuntime) -> Result<(), Fail> {
             "entry 1\nentry 2\n",
         ),
     ] {
-        let (status, out) = run(&rt, alloc, &["script", "S"], script.as_bytes(), &[])?;
         let want = format!(in alloc; "{HEAD}{calls}log 0\n{entries}{TABLES}")?;
-        assert_eq!(rt; status.code(), 0, "{name}");
-        assert_eq!(rt; out.as_slice(), want.as_bytes(), "{name}");
+        check_answer(
+            &rt,
+            alloc,
+            name,
+            &["script", "S"],
+            script.as_bytes(),
+            0,
+            &want,
+        )?;
     }
-    let (status, out) = run(&rt, alloc, &["script", "S"], FIRST.as_bytes(), &[])?;
-    assert_eq!(rt; status.code(), 0, "first-path");
-    assert_eq!(rt; out.as_slice(), FIRST_REPORT.as_bytes(), "first-path");
-    Ok(())
+    let first = FIRST.as_bytes();
+    check_answer(
+        &rt,
+        alloc,
+        "first-path",
+        &["script", "S"],
+        first,
+        0,
+        FIRST_REPORT,
+    )
 }
 
 #[test]
@@ -272,9 +335,7 @@ fn rows_with_a_refusal(rt: HostRuntime) -> Result<(), Fail> {
             "refused: script too long\n",
         ),
     ] {
-        let (status, out) = run(&rt, alloc, words, file, &[])?;
-        assert_eq!(rt; status.code(), code, "{name}");
-        assert_eq!(rt; out.as_slice(), want.as_bytes(), "{name}");
+        check_answer(&rt, alloc, name, words, file, code, want)?;
     }
     Ok(())
 }
@@ -304,13 +365,8 @@ fn rows_with_an_image(rt: HostRuntime) -> Result<(), Fail> {
             "53414e4354554d0108060404000000000000008000000000000000000000000000000080000000000000000000000000000000800000000000000000000000000000008000000000000000000000000000000080000000000000000000000000000000800000000000000000000000000000008000000000000000000000000000000080000000000000000000000000",
         ),
     ] {
-        let (status, out) = run(&rt, alloc, &words, file.as_bytes(), &[])?;
-        assert_eq!(rt; status.code(), 0, "{name}");
-        assert_eq!(rt;
-            hex::encode(alloc, out.as_slice())?.as_str(),
-            want,
-            "{name}"
-        );
+        let files = Files::of_script(file.as_bytes(), b"");
+        check_bytes(&rt, alloc, name, &words, &files, want)?;
     }
     Ok(())
 }
@@ -333,19 +389,25 @@ fn events_run_out(rt: HostRuntime) -> Result<(), Fail> {
     Ok(())
 }
 
+/// Checks that a sink that fails call k has the first k lines of the report.
+fn check_first_lines<R: Threads + Sync + Abort>(rt: &R, alloc: Global, k: u32) -> Result<(), Fail> {
+    let (status, out) = run(rt, alloc, &["script", "S"], FIRST.as_bytes(), &[k])?;
+    assert_eq!(rt; status.code(), 6, "call {k}");
+    assert!(rt;
+        FIRST_REPORT.as_bytes().starts_with(out.as_slice()),
+        "call {k}"
+    );
+    let lines = out.as_slice().iter().filter(|byte| **byte == b'\n').count();
+    assert_eq!(rt; lines, k as usize, "call {k}");
+    Ok(())
+}
+
 /// Rows `sink-fails-at-k`, `sink-fails-late`, `usage-sink-fails`, and a sink that fails its call 1.
 #[test]
 fn rows_with_a_failing_sink(rt: HostRuntime) -> Result<(), Fail> {
     let alloc = rt.alloc();
     for k in 0..23u32 {
-        let (status, out) = run(&rt, alloc, &["script", "S"], FIRST.as_bytes(), &[k])?;
-        assert_eq!(rt; status.code(), 6, "call {k}");
-        assert!(rt;
-            FIRST_REPORT.as_bytes().starts_with(out.as_slice()),
-            "call {k}"
-        );
-        let lines = out.as_slice().iter().filter(|byte| **byte == b'\n').count();
-        assert_eq!(rt; lines, k as usize, "call {k}");
+        check_first_lines(&rt, alloc, k)?;
     }
     for (name, words, file, fails, code, want) in [
         (
@@ -366,9 +428,11 @@ fn rows_with_a_failing_sink(rt: HostRuntime) -> Result<(), Fail> {
             "sanctum report 1\n",
         ),
     ] {
-        let (status, out) = run(&rt, alloc, words, file.as_bytes(), &[fails])?;
-        assert_eq!(rt; status.code(), code, "{name}");
-        assert_eq!(rt; out.as_slice(), want.as_bytes(), "{name}");
+        let files = Files {
+            failing_puts: &[fails],
+            ..Files::of_script(file.as_bytes(), b"")
+        };
+        check_files(&rt, alloc, name, words, &files, code, want)?;
     }
     Ok(())
 }

@@ -1,6 +1,6 @@
 //! The worked rows of the coloured cache by the command `llc`. Hits are worked out by hand.
 
-use crate::tests::run;
+use crate::tests::{Files, check_answer, check_files};
 use std::test::Fail;
 
 /// Rows `two-colours`, `one-set-thrashes`, `trace-outside-dram` and `trace-empty`, and other traces.
@@ -52,9 +52,15 @@ fn rows_of_traces(rt: HostRuntime) -> Result<(), Fail> {
             "refused: trace line 2\n",
         ),
     ] {
-        let (status, out) = run(&rt, alloc, &["llc", "S"], trace.as_bytes(), &[])?;
-        assert_eq!(rt; status.code(), code, "{name}");
-        assert_eq!(rt; out.as_slice(), want.as_bytes(), "{name}");
+        check_answer(
+            &rt,
+            alloc,
+            name,
+            &["llc", "S"],
+            trace.as_bytes(),
+            code,
+            want,
+        )?;
     }
     Ok(())
 }
@@ -63,31 +69,31 @@ fn rows_of_traces(rt: HostRuntime) -> Result<(), Fail> {
 fn traces_that_are_too_long_or_missing(rt: HostRuntime) -> Result<(), Fail> {
     let alloc = rt.alloc();
     let signs = vec![in alloc; b'#'; 16_777_217]?;
-    let (status, out) = run(&rt, alloc, &["llc", "S"], &signs, &[])?;
-    assert_eq!(rt; status.code(), 11);
-    assert_eq!(rt; out.as_slice(), "refused: trace too long\n".as_bytes());
-    let (status, out) = run(&rt, alloc, &["llc", "X"], b"", &[])?;
-    assert_eq!(rt; status.code(), 5);
-    assert_eq!(rt; out.as_slice(), "refused: read fault\n".as_bytes());
-    Ok(())
+    let long = "refused: trace too long\n";
+    check_answer(&rt, alloc, "too long", &["llc", "S"], &signs, 11, long)?;
+    let read = "refused: read fault\n";
+    check_answer(&rt, alloc, "missing", &["llc", "X"], b"", 5, read)
 }
 
 /// A sink that fails call k has the first k lines.
 #[test]
 fn a_sink_that_fails(rt: HostRuntime) -> Result<(), Fail> {
     let alloc = rt.alloc();
-    for (k, want) in [
-        (0, ""),
-        (1, "region 0 accesses 1 hits 0\n"),
+    for (name, k, want) in [
+        ("call 0", 0, ""),
+        ("call 1", 1, "region 0 accesses 1 hits 0\n"),
         (
+            "call 2",
             2,
             "region 0 accesses 1 hits 0\nregion 1 accesses 0 hits 0\n",
         ),
     ] {
         let trace = "cache 2 1 0 1\n0x80000000\n";
-        let (status, out) = run(&rt, alloc, &["llc", "S"], trace.as_bytes(), &[k])?;
-        assert_eq!(rt; status.code(), 6, "call {k}");
-        assert_eq!(rt; out.as_slice(), want.as_bytes(), "call {k}");
+        let files = Files {
+            failing_puts: &[k],
+            ..Files::of_script(trace.as_bytes(), b"")
+        };
+        check_files(&rt, alloc, name, &["llc", "S"], &files, 6, want)?;
     }
     Ok(())
 }

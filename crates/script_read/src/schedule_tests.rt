@@ -4,6 +4,7 @@ use crate::{ScheduleError, read_schedule};
 use mon_types::StepItem;
 use sm_ports::MapDepot;
 use std::alloc::{AllocError, Global};
+use std::process::Abort;
 use std::test::Fail;
 
 /// No call of a depot has this number.
@@ -32,6 +33,38 @@ fn fault(alloc: Global, text: &[u8], cores: u8) -> Result<String, AllocError> {
         Err(ScheduleError::Read(_)) => String::from_str(alloc, "read"),
         Err(ScheduleError::Memory) => String::from_str(alloc, "memory"),
     }
+}
+
+/// Checks the fault of a schedule for so many cores; the empty text where it has none.
+fn check_fault(
+    rt: &impl Abort,
+    alloc: Global,
+    text: &[u8],
+    cores: u8,
+    want: &str,
+) -> Result<(), Fail> {
+    assert_eq!(rt; fault(alloc, text, cores)?.as_str(), want);
+    Ok(())
+}
+
+/// Checks that a schedule for one core has no items.
+fn check_no_items(rt: &impl Abort, alloc: Global, text: &[u8]) {
+    let items = read(alloc, text, 1).expect(rt, "a schedule");
+    assert!(rt; items.is_empty());
+}
+
+/// Checks whether a read fault is told where the depot fails this call.
+fn check_failing_call(
+    rt: &impl Abort,
+    alloc: Global,
+    failing: u32,
+    fails: bool,
+) -> Result<(), Fail> {
+    let bytes = b"0 0".to_vec(alloc)?;
+    let mut depot = depot_with(alloc, bytes, failing)?;
+    let answer = read_schedule(alloc, &mut depot, "q", 1);
+    assert_eq!(rt; matches!(answer, Err(ScheduleError::Read(_))), fails);
+    Ok(())
 }
 
 fn item(core: u8, count: u32) -> StepItem {
@@ -64,8 +97,7 @@ fn items_are_read(rt: HostRuntime) -> Result<(), Fail> {
 fn there_may_be_no_items(rt: HostRuntime) -> Result<(), Fail> {
     let alloc = rt.alloc();
     for text in [b"".as_slice(), b" ", b"\n", b"\r\n\t \r"] {
-        let items = read(alloc, text, 1).expect(&rt, "a schedule");
-        assert!(rt; items.is_empty());
+        check_no_items(&rt, alloc, text);
     }
     Ok(())
 }
@@ -99,7 +131,7 @@ fn the_first_fault_is_named(rt: HostRuntime) -> Result<(), Fail> {
         (b"0\x0b0", 1, "schedule at 0"),
         (b"0 1 2 3 4", 3, "schedule at 6"),
     ] {
-        assert_eq!(rt; fault(alloc, text, cores)?.as_str(), want);
+        check_fault(&rt, alloc, text, cores, want)?;
     }
     Ok(())
 }
@@ -112,7 +144,7 @@ fn the_limit_comes_before_all_else(rt: HostRuntime) -> Result<(), Fail> {
         (1_048_577, "schedule at 1048576"),
     ] {
         let bytes = vec![in alloc; b'x'; size]?;
-        assert_eq!(rt; fault(alloc, bytes.as_slice(), 1)?.as_str(), want);
+        check_fault(&rt, alloc, bytes.as_slice(), 1, want)?;
     }
     let spaces = vec![in alloc; b' '; 1_048_576]?;
     assert_eq!(rt; fault(alloc, spaces.as_slice(), 1)?.as_str(), "");
@@ -123,10 +155,7 @@ fn the_limit_comes_before_all_else(rt: HostRuntime) -> Result<(), Fail> {
 fn a_failing_depot_is_told(rt: HostRuntime) -> Result<(), Fail> {
     let alloc = rt.alloc();
     for (failing, fails) in [(0, true), (1, true), (2, false)] {
-        let bytes = b"0 0".to_vec(alloc)?;
-        let mut depot = depot_with(alloc, bytes, failing)?;
-        let answer = read_schedule(alloc, &mut depot, "q", 1);
-        assert_eq!(rt; matches!(answer, Err(ScheduleError::Read(_))), fails);
+        check_failing_call(&rt, alloc, failing, fails)?;
     }
     let mut depot = depot_with(alloc, Vec::new(alloc), NO_CALL)?;
     let answer = read_schedule(alloc, &mut depot, "missing", 1);

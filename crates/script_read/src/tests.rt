@@ -7,6 +7,7 @@ use mon_types::{Call, Line, OS_WORD};
 use reader_answers::ParseError;
 use sm_ports::MapDepot;
 use std::alloc::{AllocError, Global};
+use std::process::Abort;
 use std::test::Fail;
 
 /// The line of a script that has one.
@@ -35,6 +36,33 @@ fn fault_for(alloc: Global, text: &[u8], cores: Option<u8>) -> Result<String, Al
         Err(ParseError::Fault(fault)) => format!(in alloc; "{fault}"),
         Err(ParseError::Memory) => String::from_str(alloc, "no memory"),
     }
+}
+
+/// Checks what is wrong with a script for a count of cores, or for none; the empty text where nothing is.
+fn check_fault(
+    rt: &impl Abort,
+    alloc: Global,
+    text: &[u8],
+    cores: Option<u8>,
+    want: &str,
+) -> Result<(), Fail>
+    requires { IfSome cores (λ count. 1 ≤ count) }
+{
+    assert_eq!(rt; fault_for(alloc, text, cores)?.as_str(), want);
+    Ok(())
+}
+
+/// Checks that a script has this one line.
+fn check_line(rt: &impl Abort, alloc: Global, text: &[u8], line: Line) {
+    assert_eq!(rt; only_line(alloc, text), Some(line));
+}
+
+/// Checks for how many cores a script has lists of lines.
+fn check_lists(rt: &impl Abort, alloc: Global, text: &[u8], cores: Option<u8>, want: usize)
+    requires { IfSome cores (λ count. 1 ≤ count) }
+{
+    let script = parse_script(alloc, text, cores).expect(rt, "a script");
+    assert_eq!(rt; script.cores.len(), want);
 }
 
 #[test]
@@ -78,7 +106,7 @@ fn the_first_fault_is_named(rt: HostRuntime) -> Result<(), Fail> {
         (b"reg 32 1", "script line 1 bad number"),
         (b"reg x1 1", "script line 1 bad number"),
     ] {
-        assert_eq!(rt; fault(alloc, text)?.as_str(), want);
+        check_fault(&rt, alloc, text, None, want)?;
     }
     Ok(())
 }
@@ -107,7 +135,7 @@ fn kinds_are_tested_in_order(rt: HostRuntime) -> Result<(), Fail> {
         (b"store 1 os", "script line 1 bad number"),
         (b"\n# one\ncore 16\nblok", "script line 3 bad core"),
     ] {
-        assert_eq!(rt; fault(alloc, text)?.as_str(), want);
+        check_fault(&rt, alloc, text, None, want)?;
     }
     Ok(())
 }
@@ -135,7 +163,7 @@ fn turns_are_counted_for_each_core(rt: HostRuntime) -> Result<(), Fail> {
         (b"run 1000001\nblok", "script line 1 turns over"),
         (b"blok\nrun 1000001", "script line 1 unknown word"),
     ] {
-        assert_eq!(rt; fault(alloc, text)?.as_str(), want);
+        check_fault(&rt, alloc, text, None, want)?;
     }
     Ok(())
 }
@@ -151,7 +179,7 @@ fn cores_are_below_their_count(rt: HostRuntime) -> Result<(), Fail> {
         (b"core 20", Some(21), ""),
         (b"core 15", None, ""),
     ] {
-        assert_eq!(rt; fault_for(alloc, text, cores)?.as_str(), want);
+        check_fault(&rt, alloc, text, cores, want)?;
     }
     Ok(())
 }
@@ -186,8 +214,7 @@ fn each_core_has_a_list(rt: HostRuntime) -> Result<(), Fail> {
         (b"", Some(4), 4),
         (b"core 1\ntick", Some(4), 4),
     ] {
-        let script = parse_script(alloc, text, cores).expect(&rt, "a script");
-        assert_eq!(rt; script.cores.len(), want);
+        check_lists(&rt, alloc, text, cores, want);
     }
     Ok(())
 }
@@ -247,7 +274,7 @@ fn calls_are_named(rt: HostRuntime) -> Result<(), Fail> {
         (23, b"reserve 1 2 3 4"),
     ] {
         let call = Call::of_registers(number, [1, 2, 3, 4, 5, 6]);
-        assert_eq!(rt; only_line(alloc, text), Some(Line::Make(call)));
+        check_line(&rt, alloc, text, Line::Make(call));
     }
     Ok(())
 }
@@ -282,7 +309,7 @@ fn other_lines_are_read(rt: HostRuntime) -> Result<(), Fail> {
         (b"reg 1 0", Line::SetReg(1, 0)),
         (b"reg 31 0xffffffffffffffff", Line::SetReg(31, u64::MAX)),
     ] {
-        assert_eq!(rt; only_line(alloc, text), Some(line));
+        check_line(&rt, alloc, text, line);
     }
     Ok(())
 }

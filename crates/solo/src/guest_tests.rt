@@ -251,10 +251,17 @@ fn expect_exit(
         "tick after {cause}"
     );
     for x in 0..32 {
-        let kept = (first.map(|saved| saved[x]), again.map(|saved| saved[x]));
-        assert_eq!(rt; kept.0, kept.1, "word {x} after {cause}");
+        expect_kept(rt, (first, again), x, cause);
     }
     Ok(())
+}
+
+/// Checks that a word is the same in what two exits saved.
+fn expect_kept(rt: &impl Abort, saved: (Option<[u64; 33]>, Option<[u64; 33]>), x: usize, cause: u64)
+    requires { x ≤ 32 }
+{
+    let kept = (saved.0.map(|saved| saved[x]), saved.1.map(|saved| saved[x]));
+    assert_eq!(rt; kept.0, kept.1, "word {x} after {cause}");
 }
 
 #[test]
@@ -280,6 +287,16 @@ fn each_trap_of_an_enclave(rt: HostRuntime) -> Result<(), Fail> {
     Ok(())
 }
 
+/// Checks that the i-th of the last seven events of the core's log, counted from 0, is this touch.
+fn expect_touch(rt: &impl Abort, finished: &Finished, i: usize, region: u8, since: u32) {
+    let place = events(finished).saturating_sub(7).saturating_add(i);
+    assert_eq!(rt;
+        event(finished, place),
+        Some(Event::Touch { region, since }),
+        "touch {i}"
+    );
+}
+
 #[test]
 fn an_enclave_uses_the_tables_of_the_os_outside_its_range(rt: HostRuntime) -> Result<(), Fail> {
     // lui x12, 0x40006; ld x5, 0(x12); sd x5, 8(x12): the second entry of the root is a leaf of 1 GiB at
@@ -297,18 +314,9 @@ fn an_enclave_uses_the_tables_of_the_os_outside_its_range(rt: HostRuntime) -> Re
     ];
     let finished = run_enclave(rt.alloc(), words, &lines)?;
     expect_words(&rt, &finished, &[(6 * 512, 77), (6 * 512 + 1, 77)]);
-    let count = events(&finished);
     let touched = [(2, 11), (3, 12), (4, 13), (5, 14), (10, 0), (6, 0)];
     for (i, (region, since)) in touched.iter().enumerate() {
-        let expected = Event::Touch {
-            region: *region,
-            since: *since,
-        };
-        assert_eq!(rt;
-            event(&finished, count.saturating_sub(7) + i),
-            Some(expected),
-            "touch {i}"
-        );
+        expect_touch(&rt, &finished, i, *region, *since);
     }
     Ok(())
 }

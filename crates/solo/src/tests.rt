@@ -189,6 +189,15 @@ fn the_machines_lines_of_the_os_log_nothing(rt: HostRuntime) -> Result<(), Fail>
     Ok(())
 }
 
+/// Checks that the entry at a place of the core's log is an exit that saved these words.
+fn expect_saved(rt: &impl Abort, finished: &Finished, place: usize, saved: [u64; 33]) {
+    let call = match event(finished, place) {
+        Some(Event::Entry(entry)) => Some(entry.call),
+        _ => None,
+    };
+    assert_eq!(rt; call, Some(Call::Aex { saved }), "event {place}");
+}
+
 #[test]
 fn a_tick_saves_what_enter_set(rt: HostRuntime) -> Result<(), Fail> {
     let lines = [
@@ -208,11 +217,7 @@ fn a_tick_saves_what_enter_set(rt: HostRuntime) -> Result<(), Fail> {
     saved[32] = 9223372036854775813;
     for (place, something_saved) in [(21, 0), (23, 1)] {
         saved[10] = something_saved;
-        let call = match event(&finished, place) {
-            Some(Event::Entry(entry)) => Some(entry.call),
-            _ => None,
-        };
-        assert_eq!(rt; call, Some(Call::Aex { saved }), "event {place}");
+        expect_saved(&rt, &finished, place, saved);
     }
     Ok(())
 }
