@@ -12,3 +12,4 @@ pub mod Anys
 pub mod Owns
 pub mod Touching
 pub mod ByHand
+pub mod FirstSlot

@@ -2,7 +2,7 @@
 use Rattle.std.proofs.Common.{◌≡◌, ℕ, ◌<◌, Bool, true, false, ◌==◌, if◌then◌else◌, List, [], ◌∷◌, ◌++◌, replicate, Option, Some, None, IfSome, inl, inr, refl, sym, ap, subst, ◌∙◌, append_assoc, append-nil}
 use Rattle.std.specs.Option.{option_map}
 use Rattle.std.specs.List.{AllByRecursion}
-use Rattle.std.proofs.lemmas.Bool.{eq-eqb}
+use Rattle.std.proofs.lemmas.Bool.{eqb-false, cases_Bool}
 use Rattle.std.proofs.lemmas.List.{get_or-replicate}
 use Rattle.std.proofs.lemmas.List.Sums.{fold-append}
 use Rattle.mon_types.specs.declared.region.Owner.{Owner}
@@ -16,7 +16,7 @@ use Rattle.mon_model.specs.OnRegion.{owner_made}
 use Rattle.hist.specs.declared.event.Entry.{Entry}
 use Rattle.hist.specs.declared.period.Period.{Period}
 use Rattle.hist.specs.Merging.{Ascend}
-use Rattle.hist.specs.Period.{NameOwners, NamesOwnerIn, was_initialized, initialized_after, owner_by, owner_of_period, period_with, period_in}
+use Rattle.hist.specs.Period.{NameOwners, NamesOwner, was_initialized, initialized_after, owner_by, owner_of_period, period_with, period_in}
 use Rattle.hist.specs.Walk.{flag_of, FlagsGoOn, known_after}
 use Rattle.hist.proofs.Periods.{AreBelow, period_next}
 
@@ -43,11 +43,11 @@ below_next (x ∷ gone) e rest ascend = (here gone ascend.0, below_next gone e r
     here [] all = all.0
     here (y ∷ xs) all = here xs all.1
 
-names_next : (gone : List Entry) (e : Entry) (rest : List Entry) → NameOwners (gone ++ e ∷ rest) → is_done e.reply ≡ true → NamesOwnerIn e.call e.tried
+names_next : (gone : List Entry) (e : Entry) (rest : List Entry) → NameOwners (gone ++ e ∷ rest) → is_done e.reply ≡ true → NamesOwner e.call
 names_next [] e rest names = names.0
 names_next (x ∷ gone) e rest names = names_next gone e rest names.1
 
-pub walked_names : (h : List Entry) (e : Entry) (rest : List Entry) (r a : ℕ) (flags : List Bool) (known : Option Period) → NameOwners h → Walked h (e ∷ rest) r a flags known → is_done e.reply ≡ true → NamesOwnerIn e.call e.tried
+pub walked_names : (h : List Entry) (e : Entry) (rest : List Entry) (r a : ℕ) (flags : List Bool) (known : Option Period) → NameOwners h → Walked h (e ∷ rest) r a flags known → is_done e.reply ≡ true → NamesOwner e.call
 walked_names h e rest r a flags known names walked = names_next walked.gone e rest (subst NameOwners (sym walked.all) names)
 
 pub walked_region : (h rest : List Entry) (r a : ℕ) (flags : List Bool) (known : Option Period) → r < 64 → Walked h rest r a flags known → IfSome known (λ p. p.region < 64)
@@ -58,16 +58,17 @@ walked_region h rest r a flags known lt walked = subst (λ (k : Option Period). 
     region_of (Some owner) = lt
 
 -- flags that agree for each slot below 8 make the same owner
-made_same : (r : ℕ) (f g : ℕ → Bool) → ((slot : ℕ) → slot < 8 → f slot ≡ g slot) → (call : Call) (tried : Tried) → NamesOwnerIn call tried → owner_made r f call tried ≡ owner_made r g call tried
-made_same r f g agree (calls.Assign q to) tried (inl is) =
-    let to_os : (to == os_word) ≡ true = eq-eqb to os_word is in
-    ap (λ b. if q == r then (if b then Some owners.Os else if f to then None else Some (owners.Enclave to)) else None) to_os
-    ∙ sym (ap (λ b. if q == r then (if b then Some owners.Os else if g to then None else Some (owners.Enclave to)) else None) to_os)
-made_same r f g agree (calls.Assign q to) tried (inr lt) =
-    ap (λ b. if q == r then (if to == os_word then Some owners.Os else if b then None else Some (owners.Enclave to)) else None) (agree to lt)
+made_same : (r : ℕ) (f g : ℕ → Bool) → ((slot : ℕ) → slot < 8 → f slot ≡ g slot) → (call : Call) (tried : Tried) → NamesOwner call → owner_made r f call tried ≡ owner_made r g call tried
+made_same r f g agree (calls.Assign q to) tried names = elim (cases_Bool (to == os_word)) [
+  | inl t ↦
+      ap (λ b. if q == r then (if b then Some owners.Os else if f to then None else Some (owners.Enclave to)) else None) t
+      ∙ sym (ap (λ b. if q == r then (if b then Some owners.Os else if g to then None else Some (owners.Enclave to)) else None) t)
+  | inr n ↦ ap (λ b. if q == r then (if to == os_word then Some owners.Os else if b then None else Some (owners.Enclave to)) else None) (agree to (names (eqb-false to os_word n)))
+]
 made_same r f g agree _ tried names = refl
 
-owner_same : (r : ℕ) (f g : ℕ → Bool) → ((slot : ℕ) → slot < 8 → f slot ≡ g slot) → (e : Entry) → (is_done e.reply ≡ true → NamesOwnerIn e.call e.tried) → owner_by r f e ≡ owner_by r g e
+-- and so they do for an entry
+pub owner_same : (r : ℕ) (f g : ℕ → Bool) → ((slot : ℕ) → slot < 8 → f slot ≡ g slot) → (e : Entry) → (is_done e.reply ≡ true → NamesOwner e.call) → owner_by r f e ≡ owner_by r g e
 owner_same r f g agree e names =
     (elim (is_done e.reply) as (λ b. is_done e.reply ≡ b → (if b then owner_made r f e.call e.tried else None) ≡ (if b then owner_made r g e.call e.tried else None)) [
       | true ↦ λ done. made_same r f g agree e.call e.tried (names done)

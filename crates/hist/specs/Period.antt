@@ -1,12 +1,11 @@
 -- Periods of ownership, read off a history. This project's own.
-use Rattle.std.specs.Prelude.{◌≡◌, ℕ, ◌^◌, ◌<◌, ◌⊎◌, ⊤, Bool, true, false, ◌==◌, ◌&&◌, nat_lt, if◌then◌else◌, List, filter, find, fold, Option, Some, None, option_and_then}
+use Rattle.std.specs.Prelude.{◌≡◌, ℕ, ◌<◌, ⊤, Bool, true, false, ◌==◌, ◌&&◌, nat_lt, if◌then◌else◌, List, filter, find, fold, Option, Some, None, option_and_then}
 use Rattle.std.specs.Option.{option_map}
 use Rattle.std.specs.List.{AllByRecursion}
 use Rattle.mon_types.specs.declared.region.Owner.{Owner}
 use Rattle.mon_types.specs.declared.region.Owner.TheVariants as owners
 use Rattle.mon_types.specs.declared.call.Call.{Call}
 use Rattle.mon_types.specs.declared.call.Call.TheVariants as calls
-use Rattle.mon_types.specs.declared.object.Tried.{Tried}
 use Rattle.mon_types.specs.Owns.{os_word}
 use Rattle.mon_types.specs.Replies.{is_done}
 use Rattle.mon_model.specs.OnRegion.{withdraws, frees, owner_made, initialized_by}
@@ -67,12 +66,11 @@ period_in h r a = option_map (period_with h r a) (owner_of_period h r a)
 
 -- ---- what `period_of` asks of a history
 
--- an assign names the OS or a slot below 8, and an accept_region tried exactly one enclave
-abbrev pub NamesOwnerIn : Call → Tried → Type 0
-NamesOwnerIn (calls.Assign r to) tried = (to ≡ os_word) ⊎ (to < 8)
-NamesOwnerIn (calls.AcceptRegion r) tried = (slot : ℕ) × (slot < 8) × (tried.enclaves ≡ 2 ^ slot)
-NamesOwnerIn _ tried = ⊤
+-- an assign names the OS or a slot below 8
+abbrev pub NamesOwner : Call → Type 0
+NamesOwner (calls.Assign r to) = (to ≡ os_word → ⊥) → to < 8
+NamesOwner _ = ⊤
 
--- each assign and accept_region that answers Ok does so
+-- each assign that answers Ok does so
 abbrev pub NameOwners : List Entry → Type 0
-NameOwners h = AllByRecursion (λ e. is_done e.reply ≡ true → NamesOwnerIn e.call e.tried) h
+NameOwners h = AllByRecursion (λ e. is_done e.reply ≡ true → NamesOwner e.call) h

@@ -21,4 +21,4 @@ pub use laws::{
 };
 pub use log::Log;
 pub use merge::Merge;
-pub use period::{Period, period_of};
+pub use period::{Period, is_end, is_freeing, note_slot, owner_by, period_of};

@@ -1,6 +1,6 @@
 //! Periods of ownership.
 
-ghost use Rattle.std.specs.Prelude.{◌≡◌, ◌<◌, ◌⊎◌, ◌^◌, ℕ, true, [], None, Some, if◌then◌else◌, nat_eq, IfSome};
+ghost use Rattle.std.specs.Prelude.{◌≡◌, ◌<◌, true, [], None, Some, if◌then◌else◌, nat_eq, IfSome};
 ghost use Rattle.std.specs.List.{AllByRecursion};
 ghost use Rattle.mon_types.specs.declared.region.Owner.TheVariants as owners;
 ghost use Rattle.mon_types.specs.Owns.{os_word};
@@ -9,7 +9,7 @@ ghost use Rattle.mon_model.specs.OnRegion.{sole_slot};
 ghost use Rattle.hist.specs.Logged.{events_of};
 ghost use Rattle.hist.specs.History.{history};
 ghost use Rattle.hist.specs.Merging.{CanMerge};
-ghost use Rattle.hist.specs.Period.{NameOwners, NamesOwnerIn, period_in, owner_by, is_end, is_freeing};
+ghost use Rattle.hist.specs.Period.{NameOwners, NamesOwner, period_in, owner_by, is_end, is_freeing};
 ghost use Rattle.hist.specs.Walk.{flag_of, FlagsGoOn, begun_period, go_on, known_after};
 
 use crate::event::Entry;
@@ -30,7 +30,7 @@ pub struct Period {
 
 /// The period of a region below 64 that began at ticket `since`; None exactly where none began then. At
 /// 0, the start, one began for every region. The logs are such as can be merged; each assign that
-/// answered Ok names the OS or a slot below 8, and each such accept_region tried exactly one enclave.
+/// answered Ok names the OS or a slot below 8.
 pub fn period_of(logs: &[Log], region: u8, since: u32) -> Option<Period>
     requires logs { CanMerge (events_of logs.now) }
     requires region { region < 64 }
@@ -75,7 +75,7 @@ fn known_after(
     entry: &Entry,
 ) -> Option<Period>
     requires region { IfSome period (λ p. p.region < 64) }
-    requires owner { is_done entry.now.reply ≡ true → NamesOwnerIn entry.now.call entry.now.tried }
+    requires owner { is_done entry.now.reply ≡ true → NamesOwner entry.now.call }
     ensures { result ≡ known_after region since (flag_of initialized.now) period entry.now }
 {
     match period {
@@ -107,7 +107,7 @@ fn go_on(period: Period, entry: &Entry) -> Period
 }
 
 /// Whether the entry is an Ok block of the region, or an Ok delete that tried it.
-fn is_end(region: u8, entry: &Entry) -> bool
+pub fn is_end(region: u8, entry: &Entry) -> bool
     requires { region < 64 }
     ensures { result ≡ is_end region entry.now }
 {
@@ -120,15 +120,16 @@ fn is_end(region: u8, entry: &Entry) -> bool
 }
 
 /// Whether the entry is an Ok free of the region.
-fn is_freeing(region: u8, entry: &Entry) -> bool
+pub fn is_freeing(region: u8, entry: &Entry) -> bool
     ensures { result ≡ is_freeing region entry.now }
 {
     entry.reply.is_ok() && matches!(entry.call, Call::Free { r } if r == u64::from(region))
 }
 
-/// Whom the entry makes the owner of the region.
-fn owner_by(region: u8, initialized: &[bool; SLOTS], entry: &Entry) -> Option<Owner>
-    requires { is_done entry.now.reply ≡ true → NamesOwnerIn entry.now.call entry.now.tried }
+/// Whom the entry makes the owner of the region. `initialized` says of each enclave slot whether it has an
+/// Ok init since its last Ok create; an assign that answered Ok names the OS or a slot below 8.
+pub fn owner_by(region: u8, initialized: &[bool; SLOTS], entry: &Entry) -> Option<Owner>
+    requires { is_done entry.now.reply ≡ true → NamesOwner entry.now.call }
     ensures { result ≡ owner_by region (flag_of initialized.now) entry.now }
 {
     if !entry.reply.is_ok() {
@@ -145,7 +146,7 @@ fn owner_by(region: u8, initialized: &[bool; SLOTS], entry: &Entry) -> Option<Ow
 
 /// Whom an assign makes the owner: an initialized enclave is only offered the region.
 fn assigned(to: u64, initialized: &[bool; SLOTS]) -> Option<Owner>
-    requires { (to ≡ os_word) ⊎ (to < 8) }
+    requires { (to ≡ os_word → ⊥) → to < 8 }
     ensures { result ≡ (if nat_eq to os_word then Some owners.Os else if flag_of initialized.now to then None else Some (owners.Enclave to)) }
 {
     if to == OS_WORD {
@@ -159,14 +160,18 @@ fn assigned(to: u64, initialized: &[bool; SLOTS]) -> Option<Owner>
 
 /// The slot in a set of one enclave slot.
 fn sole_slot(set: u8) -> u8
-    requires { (slot : ℕ) × (slot < 8) × (set ≡ 2 ^ slot) }
     ensures { result ≡ sole_slot set }
 {
-    set.trailing_zeros() as u8
+    for slot in 0..8 {
+        if has_bit(u64::from(set), slot) {
+            return slot;
+        }
+    }
+    0
 }
 
 /// Notes that an Ok init made its slot initialized, and an Ok create no longer so.
-fn note_slot(initialized: &mut [bool; SLOTS], entry: &Entry)
+pub fn note_slot(initialized: &mut [bool; SLOTS], entry: &Entry)
     ensures { FlagsGoOn initialized.old initialized.new entry.now }
 {
     if !entry.reply.is_ok() {

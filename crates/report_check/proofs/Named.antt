@@ -6,6 +6,7 @@ use Rattle.mon_types.specs.Shape.{Shape}
 use Rattle.mon_types.specs.Replies.{is_done, is_concurrent}
 use Rattle.mon_types.specs.declared.thread.Mode.{Mode}
 use Rattle.mon_types.specs.declared.call.Call.{Call}
+use Rattle.mon_types.specs.declared.call.Call.TheVariants as calls
 use Rattle.mon_types.specs.declared.reply.Reply.{Reply}
 use Rattle.mon_types.specs.declared.reply.Reply.TheVariants as replies
 use Rattle.mon_model.specs.State.{State, start, mode_of}
@@ -17,11 +18,11 @@ use Rattle.mon_model.proofs.InRange.{in_range}
 use Rattle.hist.specs.declared.event.Entry.{Entry}
 use Rattle.hist.specs.History.{digest_of, after_entry, after_entries}
 use Rattle.hist.specs.Legal.{IsLegalEntry}
+use Rattle.hist.specs.Period.{NamesOwner, NameOwners}
 use Rattle.report_check.specs.Form.{Parsed}
 use Rattle.report_check.specs.Checks.{Passes, IsRightCall, call_checks}
 use Rattle.report_check.specs.Counted.{counted, counted_behind, state_behind}
 use Rattle.report_check.specs.FirstFailing.{FirstWrongCall}
-use Rattle.report_check.specs.Marks.{NameWhatIsThere}
 
 refused : {B : Type 0} → false ≡ true → B
 refused e = absurd (true≢false (sym e))
@@ -55,18 +56,23 @@ all_shape s (e ∷ es) = all_shape (after_entry s e) es ∙ one_shape s e
 pub of_shape : (shape : Shape) (calls : List Entry) → (state_behind shape calls).shape ≡ shape
 of_shape shape calls = all_shape (start shape) (counted calls)
 
-names_there : (shape : Shape) (calls before : List Entry) (e : Entry) → IsRightCall shape calls before e → is_done e.reply ≡ true → IsInRange shape e.call
+-- arguments that name what is there name an owner
+names_owner : (shape : Shape) (call : Call) → IsInRange shape call → NamesOwner call
+names_owner shape (calls.Assign r to) names = names.1
+names_owner shape _ names = tt
+
+names_there : (shape : Shape) (calls before : List Entry) (e : Entry) → IsRightCall shape calls before e → is_done e.reply ≡ true → NamesOwner e.call
 names_there shape calls before e right done =
     let s : State = state_behind shape before in
     let so : e.reply ≡ reply_of s e.core e.call = right.legal.reply (met_none e.reply done) in
     let good : is_bad_value s.shape e.call ≡ false = good_values s.shape (mode_of s e.core) e.call (held_reply s e.core e.call) (ap is_done (sym so) ∙ done) in
-    subst (λ (x : Shape). IsInRange x e.call) (of_shape shape before) (in_range s.shape e.call good)
+    names_owner shape e.call (subst (λ (x : Shape). IsInRange x e.call) (of_shape shape before) (in_range s.shape e.call good))
 
-names_from : (p : Parsed) (before es : List Entry) → AllByRecursion (Passes p) (call_checks before es) → NameWhatIsThere p.shape es
+names_from : (p : Parsed) (before es : List Entry) → AllByRecursion (Passes p) (call_checks before es) → NameOwners es
 names_from p before [] all = tt
 names_from p before (e ∷ es) all = (names_there p.shape p.calls before e all.0, names_from p (before ++ e ∷ []) es all.1)
 
-pub names_all : (shape : Shape) (calls : List Entry) → FirstWrongCall shape calls None → NameWhatIsThere shape calls
+pub names_all : (shape : Shape) (calls : List Entry) → FirstWrongCall shape calls None → NameOwners calls
 names_all shape calls right =
     let p : Parsed = record { shape = shape; calls = calls; logs = []; rest = [] } in
     names_from p [] calls (right p refl refl)

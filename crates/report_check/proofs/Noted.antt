@@ -5,44 +5,20 @@ use Rattle.std.proofs.lemmas.Bool.{eqb-true, eqb-false, ltb-true, ltb-false, cas
 use Rattle.std.proofs.lemmas.List.{get_or-replicate, get_or_append_left, get_or_push, length-append, take_all}
 use Rattle.std.proofs.lemmas.List.Sums.{fold-append}
 use Rattle.mon_types.specs.Shape.{Shape}
-use Rattle.mon_types.specs.Owns.{os_word}
 use Rattle.mon_types.specs.Replies.{is_done}
 use Rattle.mon_types.specs.declared.region.Owner.{Owner}
-use Rattle.mon_types.specs.declared.region.Owner.TheVariants as owners
-use Rattle.mon_types.specs.declared.call.Call.{Call}
-use Rattle.mon_types.specs.declared.call.Call.TheVariants as calls
-use Rattle.mon_types.specs.declared.object.Tried.{Tried}
-use Rattle.mon_model.specs.InRange.{IsInRange}
-use Rattle.mon_model.specs.OnRegion.{owner_made}
 use Rattle.hist.specs.declared.event.Entry.{Entry}
-use Rattle.hist.specs.Period.{owner_by, was_initialized, initialized_after}
+use Rattle.hist.specs.Period.{NamesOwner, NameOwners, owner_by, was_initialized, initialized_after}
+use Rattle.hist.proofs.Walked.{owner_same}
 use Rattle.hist.specs.Walk.{flag_of, FlagsGoOn}
 use Rattle.hist.proofs.Ordered.{all_weaker}
 use Rattle.hist.proofs.Periods.{AreBelow}
 use Rattle.report_check.specs.declared.marks.Marks.{Marks}
 use Rattle.report_check.specs.Counted.{counted, counted_behind, counted_from}
-use Rattle.report_check.specs.Marks.{IsNoted, AreNoted, MarksTell, PeriodsTell, NameWhatIsThere}
+use Rattle.report_check.specs.Marks.{IsNoted, AreNoted, MarksTell, PeriodsTell}
 use Rattle.report_check.proofs.Counting.{counted_more}
 use Rattle.report_check.proofs.Firsts.{taken_more, as_long}
 use Rattle.report_check.proofs.Marked.{tell_more}
-
--- flags that agree for each slot below 8 make the same owner
-made_same : (shape : Shape) (r : ℕ) (f g : ℕ → Bool) → ((slot : ℕ) → slot < 8 → f slot ≡ g slot) → (call : Call) (tried : Tried) → IsInRange shape call → owner_made r f call tried ≡ owner_made r g call tried
-made_same shape r f g agree (calls.Assign q to) tried names = elim (cases_Bool (to == os_word)) [
-  | inl t ↦
-      ap (λ b. if q == r then (if b then Some owners.Os else if f to then None else Some (owners.Enclave to)) else None) t
-      ∙ sym (ap (λ b. if q == r then (if b then Some owners.Os else if g to then None else Some (owners.Enclave to)) else None) t)
-  | inr n ↦ ap (λ b. if q == r then (if to == os_word then Some owners.Os else if b then None else Some (owners.Enclave to)) else None) (agree to (names.1 (eqb-false to os_word n)))
-]
-made_same shape r f g agree _ tried names = refl
-
-pub owner_same : (shape : Shape) (r : ℕ) (f g : ℕ → Bool) → ((slot : ℕ) → slot < 8 → f slot ≡ g slot) → (e : Entry) → (is_done e.reply ≡ true → IsInRange shape e.call) → owner_by r f e ≡ owner_by r g e
-owner_same shape r f g agree e names =
-    (elim (is_done e.reply) as (λ b. is_done e.reply ≡ b → (if b then owner_made r f e.call e.tried else None) ≡ (if b then owner_made r g e.call e.tried else None)) [
-      | true ↦ λ done. made_same shape r f g agree e.call e.tried (names done)
-      | false ↦ λ refused. refl
-    ])
-    refl
 
 -- ---- tickets
 
@@ -50,13 +26,10 @@ below_from : (n : ℕ) (before es : List Entry) → length before + length es < 
 below_from n before [] lt = tt
 below_from n before (e ∷ es) lt = (omega arith, below_from n (before ++ e ∷ []) es (omega (arith, length-append before (e ∷ []))))
 
-named_at : (shape : Shape) (es : List Entry) (k : ℕ) (e : Entry) → NameWhatIsThere shape es → slice_get es k ≡ Some e → is_done e.reply ≡ true → IsInRange shape e.call
-named_at shape [] k e names is = absurd cc
-named_at shape (x ∷ es) zero e names is = let same : x ≡ e = cc in subst (λ (y : Entry). is_done y.reply ≡ true → IsInRange shape y.call) same names.0
-named_at shape (x ∷ es) (suc k) e names is = named_at shape es k e names.1 is
-
-pub names_at : (shape : Shape) (es : List Entry) (k : ℕ) (e : Entry) → NameWhatIsThere shape es → slice_get es k ≡ Some e → (s : Shape) × (is_done e.reply ≡ true → IsInRange s e.call)
-names_at shape es k e names is = (shape, named_at shape es k e names is)
+pub names_at : (es : List Entry) (k : ℕ) (e : Entry) → NameOwners es → slice_get es k ≡ Some e → is_done e.reply ≡ true → NamesOwner e.call
+names_at [] k e names is = absurd cc
+names_at (x ∷ es) zero e names is = let same : x ≡ e = cc in subst (λ (y : Entry). is_done y.reply ≡ true → NamesOwner y.call) same names.0
+names_at (x ∷ es) (suc k) e names is = names_at es k e names.1 is
 
 -- ---- call by call
 
@@ -71,7 +44,7 @@ noted_none shape es marks flags f periods = record {
   slots = λ slot lt. ap (λ (fs : List Bool). flag_of fs slot) f ∙ get_or-replicate 8 slot false false lt;
 }
 
-pub noted_more : (shape : Shape) (es : List Entry) (k : ℕ) (e : Entry) (marks after : List Marks) (flags now : List Bool) → NameWhatIsThere shape es → slice_get es k ≡ Some e → NotedUpTo shape es k marks flags
+pub noted_more : (shape : Shape) (es : List Entry) (k : ℕ) (e : Entry) (marks after : List Marks) (flags now : List Bool) → NameOwners es → slice_get es k ≡ Some e → NotedUpTo shape es k marks flags
     → AreNoted (flag_of flags) (k + 1) e marks after → FlagsGoOn flags now e → NotedUpTo shape es (k + 1) after now
 noted_more shape es k e marks after flags now names there upto noted goes = record {
   periods = record { count = noted.count ∙ upto.periods.count; each = each };
@@ -96,7 +69,7 @@ noted_more shape es k e marks after flags now names there upto noted goes = reco
     below = below_from x.ticket [] (take k es) (omega (arith, ticket, as_long es k e there))
 
     same : (r : ℕ) → owner_by r (flag_of flags) x ≡ owner_by r (was_initialized h) x
-    same r = owner_same shape r (flag_of flags) (was_initialized h) upto.slots x (named_at shape es k e names there)
+    same r = owner_same r (flag_of flags) (was_initialized h) upto.slots x (names_at es k e names there)
 
     each : (r : ℕ) (d : Marks) → r < shape.regions → MarksTell (counted (take (k + 1) es)) (k + 1 + 1) r (get_or after r d)
     each r d lt =

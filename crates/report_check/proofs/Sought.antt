@@ -1,10 +1,8 @@
 -- What is found in lists of tickets that ascend.
 use Rattle.std.proofs.Common.{◌≡◌, ℕ, zero, suc, ◌+◌, ◌-◌, ◌<◌, ◌≤◌, ◌==◌, nat_lt, Bool, true, false, if◌then◌else◌, List, [], ◌∷◌, length, map, get_or, find, slice_get, Option, Some, None, refl, sym, ap, subst, ◌∙◌, arith, inl, inr, ltb, leb}
 use Rattle.std.specs.Option.{option_map}
-use Rattle.std.specs.List.{range_with_len}
 use Rattle.std.specs.List.Sorted.{IsNonDecreasingBy}
 use Rattle.std.proofs.lemmas.Bool.{lt-ltb, le-ltb, ne_eqb, eq-eqb, cases_Bool}
-use Rattle.mon_types.specs.Bits.{has_bit}
 use Rattle.mon_types.specs.declared.region.Owner.{Owner}
 use Rattle.report_check.specs.declared.marks.Begin.{Begin}
 use Rattle.report_check.specs.Marks.{Rise, first_above, begun_at, owner_since}
@@ -83,19 +81,7 @@ sought_other (x ∷ begins) a (suc i) b is other low high rise =
     ap (λ t. option_map (λ (y : Begin). y.owner) (if t then Some x else find (λ y. y.since == a) begins)) (ne_eqb x.since a (omega (arith, low 0 x (omega arith))))
     ∙ sought_other begins a i b is other (λ k d lt. low (suc k) d (omega arith)) (λ k d le lt. high (suc k) d (omega arith) (omega arith)) (λ m n d le lt. rise (suc m) (suc n) d (omega arith) (omega arith))
 
--- ---- the first slot of a set
-
-pub slot_here : (set s : ℕ) → s < 8 → has_bit set s ≡ true → find (has_bit set) (range_with_len s (8 - s)) ≡ Some s
-slot_here set s lt is =
-    let n : 8 - s ≡ suc (7 - s) = omega arith in
-    ap (λ (m : ℕ). find (has_bit set) (range_with_len s m)) n ∙ ap (λ b. if b then Some s else find (has_bit set) (range_with_len (s + 1) (7 - s))) is
-
-pub slot_later : (set s : ℕ) → s < 8 → has_bit set s ≡ false → find (has_bit set) (range_with_len s (8 - s)) ≡ find (has_bit set) (range_with_len (s + 1) (8 - (s + 1)))
-slot_later set s lt is =
-    let n : 8 - s ≡ suc (7 - s) = omega arith in
-    let m : 7 - s ≡ 8 - (s + 1) = omega arith in
-    ap (λ (m : ℕ). find (has_bit set) (range_with_len s m)) n ∙ ap (λ b. if b then Some s else find (has_bit set) (range_with_len (s + 1) (7 - s))) is
-    ∙ ap (λ (m : ℕ). find (has_bit set) (range_with_len (s + 1) m)) m
+-- ---- no beginning
 
 pub none_there : (begins : List Begin) (i : ℕ) → slice_get begins i ≡ None → length begins ≤ i
 none_there [] i is = omega arith

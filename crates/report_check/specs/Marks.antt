@@ -5,7 +5,6 @@ use Rattle.std.specs.List.{AllByRecursion}
 use Rattle.mon_types.specs.Shape.{Shape}
 use Rattle.mon_types.specs.Replies.{is_done}
 use Rattle.mon_types.specs.declared.region.Owner.{Owner}
-use Rattle.mon_model.specs.InRange.{IsInRange}
 use Rattle.hist.specs.declared.event.Entry.{Entry}
 use Rattle.hist.specs.declared.period.Period.{Period}
 use Rattle.hist.specs.Period.{owner_by, owner_of_period, is_end, is_freeing, ticket_after}
@@ -42,10 +41,6 @@ pub record MarksTell (h : List Entry) (n r : ℕ) (m : Marks) : Type 0 where
   pub begins_rise : RiseBelow n (begun_at m.begins)
   pub ends_rise : RiseBelow n m.ends
   pub frees_rise : RiseBelow n m.frees
-
--- the arguments of each call that answers Ok name what is there
-abbrev pub NameWhatIsThere : Shape → List Entry → Type 0
-NameWhatIsThere shape h = AllByRecursion (λ e. is_done e.reply ≡ true → IsInRange shape e.call) h
 
 -- ---- one more entry
 

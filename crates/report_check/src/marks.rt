@@ -1,21 +1,16 @@
 //! The periods of one region, by ticket.
 
-ghost use Rattle.std.specs.Prelude.{◌≡◌, ◌<◌, ◌≤◌, ◌++◌, [], true, ℕ, List, length, nat_eq, slice_get, OnOk, IfOk, if◌then◌else◌, None, Some};
-ghost use Rattle.mon_types.specs.Shape.{Shape};
-ghost use Rattle.mon_types.specs.declared.region.Owner.TheVariants as owners;
-ghost use Rattle.mon_types.specs.Owns.{os_word};
+ghost use Rattle.std.specs.Prelude.{◌≡◌, ◌<◌, ◌≤◌, ◌++◌, [], true, ℕ, List, length, slice_get, OnOk, IfOk};
 ghost use Rattle.mon_types.specs.Replies.{is_done};
-ghost use Rattle.mon_model.specs.InRange.{IsInRange};
-ghost use Rattle.mon_model.specs.OnRegion.{sole_slot};
 ghost use Rattle.std.specs.Option.{option_map};
 ghost use Rattle.hist.specs.declared.event.Entry.{Entry};
-ghost use Rattle.hist.specs.Period.{owner_by, is_end, is_freeing, period_in};
-ghost use Rattle.hist.specs.Walk.{flag_of, FlagsGoOn};
+ghost use Rattle.hist.specs.Period.{NamesOwner, period_in};
+ghost use Rattle.hist.specs.Walk.{flag_of};
 ghost use Rattle.report_check.specs.Marks.{Rise, first_above, begun_at, owner_since, ticket_where, begin_with, IsNoted, AreNoted, MarksTell, period_by};
 
 use crate::tickets::ticket_at;
-use hist::{Entry, Period};
-use mon_types::{Call, Items, OS_WORD, Owner, SLOTS, has_bit};
+use hist::{Entry, Period, is_end, is_freeing, owner_by};
+use mon_types::{Items, Owner, SLOTS};
 use std::alloc::{AllocError, Global};
 
 /// The beginning of a period: its ticket, and who owns the region from there on.
@@ -31,83 +26,6 @@ pub struct Marks {
     pub begins: Items<Begin>,
     pub ends: Items<u32>,
     pub frees: Items<u32>,
-}
-
-/// The slot in a set of one enclave slot.
-fn sole_slot(set: u8) -> u8
-    ensures { result ≡ sole_slot set }
-{
-    for slot in 0..8 {
-        if has_bit(u64::from(set), slot) {
-            return slot;
-        }
-    }
-    0
-}
-
-/// Whom an assign makes the owner: an initialized enclave is only offered the region.
-fn assigned(to: u64, initialized: &[bool; SLOTS]) -> Option<Owner>
-    requires { (to ≡ os_word → ⊥) → to < 8 }
-    ensures { result ≡ (if nat_eq to os_word then Some owners.Os else if flag_of initialized.now to then None else Some (owners.Enclave to)) }
-{
-    if to == OS_WORD {
-        Some(Owner::Os)
-    } else if initialized[to as usize] {
-        None
-    } else {
-        Some(Owner::Enclave(to as u8))
-    }
-}
-
-/// Whom the entry makes the owner of the region.
-fn owner_by(region: u8, initialized: &[bool; SLOTS], entry: &Entry) -> Option<Owner>
-    requires { (shape : Shape) × (is_done entry.now.reply ≡ true → IsInRange shape entry.now.call) }
-    ensures { result ≡ owner_by region (flag_of initialized.now) entry.now }
-{
-    if !entry.reply.is_ok() {
-        return None;
-    }
-    match entry.call {
-        Call::Assign { r, to } if r == u64::from(region) => assigned(to, initialized),
-        Call::AcceptRegion { r } if r == u64::from(region) => {
-            Some(Owner::Enclave(sole_slot(entry.tried.enclaves)))
-        }
-        _ => None,
-    }
-}
-
-/// Whether the entry is an Ok block of the region, or an Ok delete that tried it.
-fn is_end(region: u8, entry: &Entry) -> bool
-    requires { region < 64 }
-    ensures { result ≡ is_end region entry.now }
-{
-    entry.reply.is_ok()
-        && match entry.call {
-            Call::Block { r } => r == u64::from(region),
-            Call::Delete { .. } => has_bit(entry.tried.regions, region),
-            _ => false,
-        }
-}
-
-/// Whether the entry is an Ok free of the region.
-fn is_freeing(region: u8, entry: &Entry) -> bool
-    ensures { result ≡ is_freeing region entry.now }
-{
-    entry.reply.is_ok() && matches!(entry.call, Call::Free { r } if r == u64::from(region))
-}
-
-/// Notes that an Ok init made its slot initialized, and an Ok create no longer so.
-pub fn note_slot(initialized: &mut [bool; SLOTS], entry: &Entry)
-    ensures { FlagsGoOn initialized.old initialized.new entry.now }
-{
-    if !entry.reply.is_ok() {
-        return;
-    }
-    match entry.call {
-        Call::Create { e, .. } if e < 8 => initialized[e as usize] = false,
-        Call::Init { e } if e < 8 => initialized[e as usize] = true,
-        _ => {}
-    }
 }
 
 /// Appends a ticket where this holds.
@@ -169,7 +87,7 @@ impl Marks {
         entry: &Entry,
     ) -> Result<(), AllocError>
         requires region { region < 64 }
-        requires names { (shape : Shape) × (is_done entry.now.reply ≡ true → IsInRange shape entry.now.call) }
+        requires names { is_done entry.now.reply ≡ true → NamesOwner entry.now.call }
         ensures { OnOk result (IsNoted region (flag_of initialized.now) ticket entry.now self.old self.new) }
     {
         push_begin(
@@ -234,7 +152,7 @@ pub fn note_all(
     entry: &Entry,
 ) -> Result<(), AllocError>
     requires regions { length marks.old.items ≤ 64 }
-    requires names { (shape : Shape) × (is_done entry.now.reply ≡ true → IsInRange shape entry.now.call) }
+    requires names { is_done entry.now.reply ≡ true → NamesOwner entry.now.call }
     ensures { OnOk result (AreNoted (flag_of initialized.now) ticket entry.now marks.old.items marks.new.items) }
 {
     for region in 0..marks.len() {

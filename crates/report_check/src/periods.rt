@@ -6,8 +6,9 @@ ghost use Rattle.report_check.specs.FirstFailing.{FirstWrongCall};
 ghost use Rattle.report_check.specs.Kept.{CallsLaid, calls_told};
 ghost use Rattle.report_check.specs.Marks.{PeriodsTell};
 
-use crate::marks::{Marks, note_all, note_slot};
+use crate::marks::{Marks, note_all};
 use crate::tickets::Calls;
+use hist::note_slot;
 use mon_types::SLOTS;
 use std::alloc::{AllocError, Global};
 

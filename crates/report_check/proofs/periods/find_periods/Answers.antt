@@ -4,7 +4,7 @@ use Rattle.report_check.proofs.Noted.{names_at, noted_more}
 use Rattle.report_check.proofs.periods.find_periods.Goals as goal
 
 pub note_all-requires-clause-names : goal.note_all-requires-clause-names
-note_all-requires-clause-names c = names_at c.args.calls.now.config.now (calls_told c.args.calls.now) c.loop-k.k c.at-entry.result (names_all c.args.calls.now.config.now (calls_told c.args.calls.now) c.requires.right) c.at-entry.ensures.call
+note_all-requires-clause-names c = names_at (calls_told c.args.calls.now) c.loop-k.k c.at-entry.result (names_all c.args.calls.now.config.now (calls_told c.args.calls.now) c.requires.right) c.at-entry.ensures.call
 
 pub loop-k-preserved : goal.loop-k-preserved
 loop-k-preserved c =
