@@ -13,3 +13,8 @@ pub mod Contents
 pub mod Logs
 pub mod Passes
 pub mod Invariant
+pub mod Alone
+pub mod RegionRuns
+pub mod LoadRuns
+pub mod Collision
+pub mod Permits

@@ -1,9 +1,23 @@
 //! The protocol: the moves on the words that all cores share, each monitor call as a tree of moves, which
 //! move a core may make next, and what holds at every moment.
 //!
-//! The types stand here, the definitions in `specs/`; no code here runs.
-#![tactic(auto)]
+//! The types stand here, the definitions in `specs/`; no code here runs. Beside them stand runs that were written out
+//! by hand: the moves of calls on regions and of those that load an enclave, a collision, what is permitted, and what a
+//! swap tells. A slip in a definition, which laws over all runs could pass, fails at one of these.
+#![tactic(auto, unfolding(mon_types::specs::Bits::members, mon_types::specs::Cells::cell_from, mon_types::specs::Enclaves::stage_from, mon_types::specs::Enclaves::root_from, mon_types::specs::Enclaves::mailbox_by, mon_types::specs::Enclaves::mailbox_parts, mon_types::specs::Enclaves::enclave_parts, mon_types::specs::Enclaves::enclave_from, mon_types::specs::Enclaves::root_within, mon_types::specs::Enclaves::enclave_within, mon_types::specs::Objects::width, mon_types::specs::Owns::owner_from, mon_types::specs::Owns::region_by, mon_types::specs::Owns::region_parts, mon_types::specs::Owns::region_from, mon_types::specs::Threads::state_from, mon_types::specs::Threads::thread_parts, mon_types::specs::Threads::thread_from, mon_types::specs::Words::fitting, mon_records::specs::Rows::row_words, mon_records::specs::Rows::objects_of, mon_records::specs::Rows::same_object, mon_records::specs::Rows::words_of, mon_records::specs::EarlyWords::early_words, mon_records::specs::Answers::freed, mon_records::specs::Rebuilt::state_of, loaded_pages::specs::Content::region_zeroed, loaded_pages::specs::Content::page_put, loaded_pages::specs::Content::content_put, loaded_pages::specs::Content::content_after, crate::specs::Places::same_place, crate::specs::Places::with_word, crate::specs::Places::memory_of, crate::specs::Moves::action_place, crate::specs::Moves::place_of, crate::specs::Moves::word_found, crate::specs::Moves::try_outcome, crate::specs::Moves::swap_outcome, crate::specs::Moves::action_outcome, crate::specs::Moves::outcome_of, crate::specs::Moves::try_leaves, crate::specs::Moves::action_leaves, crate::specs::Moves::leaves, crate::specs::Moves::left_at, crate::specs::Moves::memory_after_move, crate::specs::CallTree::onto, crate::specs::CallTree::unlocks, crate::specs::CallTree::zeros, crate::specs::CallTree::write_unless, crate::specs::CallTree::row_writes, crate::specs::CallTree::late_writes, crate::specs::CallTree::late_if, crate::specs::CallTree::finish, crate::specs::CallTree::early_writes, crate::specs::CallTree::copy_words, crate::specs::CallTree::copy_page, crate::specs::CallTree::put_pte, crate::specs::CallTree::go_on, crate::specs::CallTree::walk, crate::specs::CallTree::walk_below, crate::specs::CallTree::load_if, crate::specs::CallTree::loaded, crate::specs::CallTree::loads_if, crate::specs::CallTree::early_if, crate::specs::CallTree::decided_by, crate::specs::CallTree::decided, crate::specs::CallTree::reads, crate::specs::CallTree::meets, crate::specs::CallTree::after_try, crate::specs::CallTree::lock, crate::specs::CallTree::lock_all, crate::specs::CallTree::lock_plan, crate::specs::CallTree::unless_refused, crate::specs::CallTree::call_tree, crate::specs::Views::held_by, crate::specs::Views::held_after, crate::specs::Views::held_of, crate::specs::Views::touch_in, crate::specs::Views::logged_by, crate::specs::Views::logged, crate::specs::Views::core_log, crate::specs::Views::word_in, crate::specs::Views::word_again, crate::specs::Views::answered_by, crate::specs::Views::answered, crate::specs::Views::answers_of, crate::specs::Views::is_last, crate::specs::Views::call_with, crate::specs::Views::call_moves, crate::specs::Views::are_any, crate::specs::Views::actions_before, crate::specs::Views::moves_before, crate::specs::Views::before_call, crate::specs::Views::issuer_of, crate::specs::Views::has_drawn, crate::specs::Runs::moves_with, crate::specs::Runs::moves_of, crate::specs::Runs::memory_after, crate::specs::Runs::run_of, crate::specs::Layout::object_index, crate::specs::Layout::row_index, crate::specs::Layout::place_index, crate::specs::Right::action_reach, crate::specs::Right::reach_of, crate::specs::Contents::stored_so_far, crate::specs::Logs::under_way_after, crate::specs::Logs::under_way_by, crate::specs::Logs::under_way, crate::specs::Passes::counted, crate::specs::Passes::split_off, crate::specs::Passes::views_of, crate::specs::Passes::keeps, crate::specs::Passes::pass_after, crate::specs::Worlds::world_after, crate::specs::Alone::alone,))]
 
 mod action;
+mod collision;
+mod loads;
+mod permits;
+mod regions;
+mod swaps;
 
 pub use action::{Action, Draft, Move, Outcome};
+pub use collision::collision_of_two;
+pub use loads::{load_page_moves, load_table_moves, load_thread_moves, reserve_moves};
+pub use permits::{collision_is_permitted, draws_its_draft, goes_on, looks, reaches};
+pub use regions::{
+    accept_region_moves, assign_moves, block_moves, flush_moves, free_moves, region_info_moves,
+};
+pub use swaps::swaps_tell;

@@ -22,7 +22,7 @@ use Rattle.protocol.specs.Right.{action_reach, reach_of}
 use Rattle.protocol.specs.Contents.{stored_so_far}
 use Rattle.protocol.specs.Logs.{under_way_after, under_way_by, under_way}
 use Rattle.protocol.specs.Passes.{counted, split_off, views_of, keeps}
-use Rattle.protocol_runs.specs.Alone.{alone}
+use Rattle.protocol.specs.Alone.{alone}
 use Rattle.std.specs.Prelude.{Contains, if◌then◌else◌}
 use Rattle.mon_types.specs.declared.region.Owner.{Owner}
 use Rattle.mon_types.specs.declared.region.Owner.TheVariants as owners
@@ -45,8 +45,8 @@ use Rattle.protocol.specs.Worlds.{state_now, IsHeldBy}
 use Rattle.protocol.specs.Records.{IsLockedBy, IsWrittenEarly, IsToBeWritten, IsTouched}
 use Rattle.protocol.specs.Contents.{IsToBeZero}
 use Rattle.mon_model.specs.Examples.{r1}
-use Rattle.protocol_runs.specs.Alone.{two}
-use Rattle.protocol_runs.specs.Permits.{has_looked}
+use Rattle.protocol.specs.Alone.{two}
+use Rattle.protocol.specs.Permits.{has_looked}
 use Rattle.protocol_runs.specs.Moments.{locked, written_by_nobody, touched_since_0, one, freed_moves, storing_moves, found_of_nobody, with_first_word}
 
 -- ---- small things

@@ -6,8 +6,8 @@ use Rattle.mon_types.specs.declared.object.ObjectId.TheVariants as objects
 use Rattle.mon_types.specs.Bits.{has_bit}
 use Rattle.mon_model.specs.State.{enclave_at}
 use Rattle.protocol.specs.Right.{Loads, Stores, RightTo, OfTouch, OfSource, OfLoading, OfFreeing}
-use Rattle.protocol_runs.specs.Alone.{begin}
-use Rattle.protocol_runs.specs.Permits.{has_lock}
+use Rattle.protocol.specs.Alone.{begin}
+use Rattle.protocol.specs.Permits.{has_lock}
 use Rattle.protocol_runs.specs.Rights.{has_e3, e3_loads, r1_is_free, has_freed}
 use Rattle.protocol_runs.proofs.ByHand.{only_one, no_true}
 use Rattle.mon_types.specs.Bits.{members}
@@ -32,7 +32,7 @@ use Rattle.protocol.specs.Right.{action_reach, reach_of}
 use Rattle.protocol.specs.Contents.{stored_so_far}
 use Rattle.protocol.specs.Logs.{under_way_after, under_way_by, under_way}
 use Rattle.protocol.specs.Passes.{counted, split_off, views_of, keeps}
-use Rattle.protocol_runs.specs.Alone.{alone}
+use Rattle.protocol.specs.Alone.{alone}
 
 -- ---- apart
 

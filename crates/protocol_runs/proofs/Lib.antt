@@ -1,8 +1,6 @@
-mod Follow
 mod ByHand
 mod ByRight
 mod Passing
-mod Swapping
 mod Listing
 mod Begins
 mod Everywhere

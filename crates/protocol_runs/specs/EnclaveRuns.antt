@@ -12,7 +12,7 @@ use Rattle.mon_model.specs.State.{State, with_region, with_enclave}
 use Rattle.protocol.specs.declared.action.Action.{Action}
 use Rattle.protocol.specs.declared.action.Outcome.{Outcome}
 use Rattle.mon_model.specs.Examples.{r1, r2}
-use Rattle.protocol_runs.specs.Alone.{begin, takes, writes, draws, gives, e3}
+use Rattle.protocol.specs.Alone.{begin, takes, writes, draws, gives, e3}
 
 -- ---- states
 

@@ -1,11 +1,6 @@
-pub mod Alone
-pub mod RegionRuns
 pub mod EnclaveRuns
-pub mod LoadRuns
 pub mod ThreadRuns
 pub mod MailRuns
-pub mod Collision
-pub mod Permits
 pub mod Moments
 pub mod Rights
 pub mod Layouts

@@ -20,9 +20,9 @@ use Rattle.protocol.specs.Permitted.{Follows}
 use Rattle.protocol.specs.Worlds.{World, WillDo}
 use Rattle.protocol.specs.Passes.{Pass, first_pass}
 use Rattle.mon_model.specs.Examples.{r1, c0}
-use Rattle.protocol_runs.specs.Alone.{two, e3}
-use Rattle.protocol_runs.specs.Collision.{block_draft}
-use Rattle.protocol_runs.specs.Permits.{has_lock, has_written, has_looked}
+use Rattle.protocol.specs.Alone.{two, e3}
+use Rattle.protocol.specs.Collision.{block_draft}
+use Rattle.protocol.specs.Permits.{has_lock, has_written, has_looked}
 
 -- ---- the start
 

@@ -9,9 +9,9 @@ use Rattle.mon_types.specs.declared.reply.Reply.TheVariants as replies
 use Rattle.protocol.specs.declared.action.Action.{Action}
 use Rattle.protocol.specs.declared.action.Outcome.{Outcome}
 use Rattle.mon_model.specs.Examples.{r1, c0, c1}
-use Rattle.protocol_runs.specs.Alone.{takes, writes, draws, gives, loads, e3}
+use Rattle.protocol.specs.Alone.{takes, writes, draws, gives, loads, e3}
 use Rattle.protocol_runs.specs.EnclaveRuns.{loading_with, delete_from}
-use Rattle.protocol_runs.specs.LoadRuns.{with_root}
+use Rattle.protocol.specs.LoadRuns.{with_root}
 
 -- ---- regions: two words that are no region's row are Free
 

@@ -2,7 +2,7 @@
 use Rattle.std.specs.Prelude.{List, [], ◌∷◌}
 use Rattle.mon_types.specs.Shape.{Shape, plain}
 use Rattle.protocol.specs.Passes.{Pass, Spent, Live, new_view}
-use Rattle.protocol_runs.specs.Permits.{has_lock}
+use Rattle.protocol.specs.Permits.{has_lock}
 
 -- the passes of both cores, of which core 0's counts
 abbrev pub both_passes : List Pass

@@ -9,8 +9,8 @@ use Rattle.protocol.specs.declared.action.Move.TheVariants as moves
 use Rattle.protocol.specs.declared.action.Outcome.TheVariants as outcomes
 use Rattle.protocol.specs.Views.{Moves}
 use Rattle.mon_model.specs.Examples.{r1, c0}
-use Rattle.protocol_runs.specs.Alone.{e3}
-use Rattle.protocol_runs.specs.RegionRuns.{with_r1}
+use Rattle.protocol.specs.Alone.{e3}
+use Rattle.protocol.specs.RegionRuns.{with_r1}
 use Rattle.protocol_runs.specs.EnclaveRuns.{loading_with, with_e3}
 use Rattle.protocol_runs.specs.Moments.{drawn}
 

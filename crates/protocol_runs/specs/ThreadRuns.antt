@@ -11,7 +11,7 @@ use Rattle.mon_types.specs.declared.reply.Reply.TheVariants as replies
 use Rattle.mon_model.specs.State.{State, with_thread}
 use Rattle.protocol.specs.declared.action.Action.{Action}
 use Rattle.protocol.specs.declared.action.Outcome.{Outcome}
-use Rattle.protocol_runs.specs.Alone.{takes, writes, draws, gives, e3, t2}
+use Rattle.protocol.specs.Alone.{takes, writes, draws, gives, e3, t2}
 use Rattle.protocol_runs.specs.EnclaveRuns.{running, with_e3}
 
 -- ---- states

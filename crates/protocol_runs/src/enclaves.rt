@@ -2,7 +2,7 @@
 
 ghost use Rattle.std.specs.Prelude.{◌≡◌, ◌*◌, ◌^◌, []};
 ghost use Rattle.mon_types.specs.declared.call.Call.TheVariants as calls;
-ghost use Rattle.protocol_runs.specs.Alone.{begin, by_os, all_moves, first_moves};
+ghost use Rattle.protocol.specs.Alone.{begin, by_os, all_moves, first_moves};
 ghost use Rattle.protocol_runs.specs.EnclaveRuns.{with_e3, loading_with, running, deletable, create_ok, create_refused, init_ok, init_refused, delete_ok, delete_refused, enclave_info_ok, enclave_info_refused, good_satp, set_satp_ok, set_satp_refused};
 
 /// A create, up to the words of the measurement.

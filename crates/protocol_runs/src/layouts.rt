@@ -5,7 +5,7 @@ ghost use Rattle.std.specs.List.{range_with_len};
 ghost use Rattle.protocol.specs.Places.{Counter, Lock, Row, Dram};
 ghost use Rattle.protocol.specs.Layout.{word_count, place_index, all_places};
 ghost use Rattle.mon_model.specs.Examples.{r1, c1};
-ghost use Rattle.protocol_runs.specs.Alone.{two, e3, t2};
+ghost use Rattle.protocol.specs.Alone.{two, e3, t2};
 ghost use Rattle.protocol_runs.specs.Layouts.{tiny};
 
 /// On a small machine the places of all words, one after the other, are 0, 1, 2 and so on: no place is left out, and no

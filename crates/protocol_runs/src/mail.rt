@@ -3,7 +3,7 @@
 ghost use Rattle.std.specs.Prelude.{◌≡◌};
 ghost use Rattle.mon_types.specs.declared.enclave.Mailbox.TheVariants as boxes;
 ghost use Rattle.mon_types.specs.declared.call.Call.TheVariants as calls;
-ghost use Rattle.protocol_runs.specs.Alone.{begin, by_enclave, all_moves};
+ghost use Rattle.protocol.specs.Alone.{begin, by_enclave, all_moves};
 ghost use Rattle.protocol_runs.specs.EnclaveRuns.{running, with_e3};
 ghost use Rattle.protocol_runs.specs.MailRuns.{with_box, beside, full, accept_ok, accept_again, accept_refused, send_ok, send_refused, read_ok, read_refused};
 

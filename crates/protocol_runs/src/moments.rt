@@ -9,7 +9,7 @@ ghost use Rattle.protocol.specs.Logs.{EntriesAreLegal, LogsAreSafe};
 ghost use Rattle.protocol.specs.Records.{LocksNameHolders, FreeRowsStand, HeldRowsStand, OwnWordsAreTrue, TouchesHold};
 ghost use Rattle.protocol.specs.Contents.{LoadingHold, IdleHoldZeros};
 ghost use Rattle.mon_model.specs.Examples.{r1};
-ghost use Rattle.protocol_runs.specs.Alone.{two};
+ghost use Rattle.protocol.specs.Alone.{two};
 ghost use Rattle.protocol_runs.specs.Moments.{begun, twice, lost_entry, locked, lock_of_nobody, held_unlocked, other_row, written_by_nobody, written_early, drawn_early, other_owner, touched_since_0, touched_since_5, one, found_of_nobody, freed_moves, loading_moves, storing_moves, unread_moves, with_first_word, with_zeros, read_first, StillMakes, has_drawn_block, has_written_late};
 
 /// Item 1: at the start core 0 has its one view; two views of it are none of the list's.

@@ -5,10 +5,10 @@ ghost use Rattle.mon_types.specs.Owns.{os_word};
 ghost use Rattle.mon_types.specs.declared.call.Call.TheVariants as calls;
 ghost use Rattle.protocol.specs.Places.{Row};
 ghost use Rattle.mon_model.specs.Examples.{r1, c1};
-ghost use Rattle.protocol_runs.specs.Alone.{begin, by_os, odd_moves, first_moves, e3};
-ghost use Rattle.protocol_runs.specs.RegionRuns.{blocked_at_5};
+ghost use Rattle.protocol.specs.Alone.{begin, by_os, odd_moves, first_moves, e3};
+ghost use Rattle.protocol.specs.RegionRuns.{blocked_at_5};
 ghost use Rattle.protocol_runs.specs.EnclaveRuns.{deletable};
-ghost use Rattle.protocol_runs.specs.LoadRuns.{with_root, loading, dram_with};
+ghost use Rattle.protocol.specs.LoadRuns.{with_root, loading, dram_with};
 ghost use Rattle.protocol_runs.specs.OddRows.{owned_by_nobody, odd_region_info, odd_block, odd_assign, odd_free, odd_delete, odd_load_table, to_page_8, odd_path};
 
 /// Two words that are no region's row are Free. A call that is Ok writes what is to stand there, and a refused one

@@ -8,9 +8,9 @@ ghost use Rattle.protocol.specs.Worlds.{made_now, world_after};
 ghost use Rattle.protocol.specs.Passes.{Pass, first_pass, pass_after, IsSplit, IsAtRest, IsJoin, SplitKeeps, JoinKeeps};
 ghost use Rattle.protocol.specs.Invariant.{SplitKeepsAll, JoinKeepsAll};
 ghost use Rattle.mon_model.specs.Examples.{r1};
-ghost use Rattle.protocol_runs.specs.Alone.{two};
+ghost use Rattle.protocol.specs.Alone.{two};
 ghost use Rattle.protocol_runs.specs.Moments.{begun};
-ghost use Rattle.protocol_runs.specs.Permits.{has_lock};
+ghost use Rattle.protocol.specs.Permits.{has_lock};
 ghost use Rattle.protocol_runs.specs.PassRuns.{both_passes, three, three_passes, after_join, after_lock, in_call};
 
 /// A split and a join keep what the passes have together, and all ten items of the invariant.

@@ -3,8 +3,8 @@
 ghost use Rattle.std.specs.Prelude.{[]};
 ghost use Rattle.protocol.specs.declared.action.Move.TheVariants as moves;
 ghost use Rattle.protocol.specs.Right.{Right};
-ghost use Rattle.protocol_runs.specs.Alone.{begin};
-ghost use Rattle.protocol_runs.specs.Permits.{has_lock, has_looked};
+ghost use Rattle.protocol.specs.Alone.{begin};
+ghost use Rattle.protocol.specs.Permits.{has_lock, has_looked};
 ghost use Rattle.protocol_runs.specs.Rights.{call_loads, call_stores, has_e3, e3_loads, r1_is_free, has_freed};
 
 /// The region is in a touched period.

@@ -2,7 +2,7 @@
 
 ghost use Rattle.std.specs.Prelude.{◌≡◌};
 ghost use Rattle.mon_types.specs.declared.call.Call.TheVariants as calls;
-ghost use Rattle.protocol_runs.specs.Alone.{begin, by_os, by_enclave, all_moves};
+ghost use Rattle.protocol.specs.Alone.{begin, by_os, by_enclave, all_moves};
 ghost use Rattle.protocol_runs.specs.ThreadRuns.{ready, entered, saved_words, with_saved, with_t2, delete_thread_ok, delete_thread_refused, enter_ok, enter_refused, exit_ok, exit_refused, aex_ok, aex_refused, restore_ok, restore_refused};
 
 /// A delete_thread writes the count and the slot.

@@ -22,11 +22,11 @@ use Rattle.protocol.specs.Right.{action_reach, reach_of}
 use Rattle.protocol.specs.Contents.{stored_so_far}
 use Rattle.protocol.specs.Logs.{under_way_after, under_way_by, under_way}
 use Rattle.protocol.specs.Passes.{counted, split_off, views_of, keeps}
-use Rattle.protocol_runs.specs.Alone.{alone}
+use Rattle.protocol.specs.Alone.{alone}
 use Rattle.protocol.specs.Views.{is_calling}
 use Rattle.protocol.specs.Worlds.{IsDoingSome}
 use Rattle.mon_model.specs.Examples.{r1}
-use Rattle.protocol_runs.specs.Alone.{two}
+use Rattle.protocol.specs.Alone.{two}
 use Rattle.protocol_runs.specs.Moments.{locked, read_first}
 use Rattle.protocol_runs.proofs.ByHand.{no_true}
 use Rattle.protocol_runs.proofs.Begins.{no_read_first}

@@ -1,7 +1,7 @@
 use Rattle.std.proofs.Common.{refl, arith}
 use Rattle.hist.specs.History.{entries_of, log_of}
 use Rattle.protocol.specs.Worlds.{logs}
-use Rattle.protocol_runs.specs.Alone.{two}
+use Rattle.protocol.specs.Alone.{two}
 use Rattle.protocol_runs.specs.Moments.{begun}
 use Rattle.mon_types.proofs.Below.{by_two}
 use Rattle.hist.specs.Legal.{AreOwn}
@@ -27,7 +27,7 @@ use Rattle.protocol.specs.Right.{action_reach, reach_of}
 use Rattle.protocol.specs.Contents.{stored_so_far}
 use Rattle.protocol.specs.Logs.{under_way_after, under_way_by, under_way}
 use Rattle.protocol.specs.Passes.{counted, split_off, views_of, keeps}
-use Rattle.protocol_runs.specs.Alone.{alone}
+use Rattle.protocol.specs.Alone.{alone}
 use Rattle.protocol_runs.proofs.moments.entries_are_drawn.Goals as goal
 
 pub returns-clause-holds : goal.returns-clause-holds

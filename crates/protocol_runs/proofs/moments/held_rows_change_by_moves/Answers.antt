@@ -12,11 +12,11 @@ use Rattle.protocol.specs.Permitted.{Follows}
 use Rattle.protocol.specs.Worlds.{state_now, IsHeldBy, IsDoing, WillDo}
 use Rattle.protocol.specs.Records.{withdraws_any, IsWrittenEarly, IsToBeWritten}
 use Rattle.mon_model.specs.Examples.{r1}
-use Rattle.protocol_runs.specs.Alone.{two}
-use Rattle.protocol_runs.specs.Collision.{block_draft}
+use Rattle.protocol.specs.Alone.{two}
+use Rattle.protocol.specs.Collision.{block_draft}
 use Rattle.protocol_runs.specs.Moments.{written_early, drawn_early}
 use Rattle.protocol_runs.proofs.Early.{of_call, stays_early}
-use Rattle.protocol_runs.proofs.Follow.{one_tree}
+use Rattle.protocol.proofs.Follow.{one_tree}
 use Rattle.mon_types.specs.declared.object.ObjectId.TheVariants as objects
 use Rattle.protocol_runs.proofs.ByHand.{only_one, not_written}
 use Rattle.mon_types.specs.Bits.{members}
@@ -41,7 +41,7 @@ use Rattle.protocol.specs.Right.{action_reach, reach_of}
 use Rattle.protocol.specs.Contents.{stored_so_far}
 use Rattle.protocol.specs.Logs.{under_way_after, under_way_by, under_way}
 use Rattle.protocol.specs.Passes.{counted, split_off, views_of, keeps}
-use Rattle.protocol_runs.specs.Alone.{alone}
+use Rattle.protocol.specs.Alone.{alone}
 use Rattle.protocol_runs.proofs.moments.held_rows_change_by_moves.Goals as goal
 
 pub returns-clause-holds : goal.returns-clause-holds

@@ -1,7 +1,7 @@
 use Rattle.std.proofs.Common.{[], arith}
 use Rattle.hist.specs.History.{log_of, history}
 use Rattle.protocol.specs.Worlds.{logs}
-use Rattle.protocol_runs.specs.Alone.{two}
+use Rattle.protocol.specs.Alone.{two}
 use Rattle.protocol_runs.specs.Moments.{begun}
 use Rattle.mon_types.proofs.Below.{by_two}
 use Rattle.protocol_runs.proofs.ByHand.{no_holder, doing_block}
@@ -28,7 +28,7 @@ use Rattle.protocol.specs.Right.{action_reach, reach_of}
 use Rattle.protocol.specs.Contents.{stored_so_far}
 use Rattle.protocol.specs.Logs.{under_way_after, under_way_by, under_way}
 use Rattle.protocol.specs.Passes.{counted, split_off, views_of, keeps}
-use Rattle.protocol_runs.specs.Alone.{alone}
+use Rattle.protocol.specs.Alone.{alone}
 use Rattle.mon_types.specs.declared.call.Call.TheVariants as calls
 use Rattle.protocol_runs.proofs.moments.logs_are_safe.Goals as goal
 

@@ -8,7 +8,7 @@ use Rattle.core_access.specs.Looks.{since_in_word}
 use Rattle.protocol.specs.Places.{Row}
 use Rattle.protocol.specs.Records.{ReadsOffered}
 use Rattle.protocol.specs.Worlds.{state_now}
-use Rattle.protocol_runs.specs.Alone.{two}
+use Rattle.protocol.specs.Alone.{two}
 use Rattle.protocol_runs.specs.Moments.{begun}
 use Rattle.mon_types.proofs.Below.{by_eight}
 use Rattle.protocol_runs.proofs.ByHand.{os_since_0}
@@ -34,7 +34,7 @@ use Rattle.protocol.specs.Right.{action_reach, reach_of}
 use Rattle.protocol.specs.Contents.{stored_so_far}
 use Rattle.protocol.specs.Logs.{under_way_after, under_way_by, under_way}
 use Rattle.protocol.specs.Passes.{counted, split_off, views_of, keeps}
-use Rattle.protocol_runs.specs.Alone.{alone}
+use Rattle.protocol.specs.Alone.{alone}
 use Rattle.protocol_runs.proofs.moments.own_words_are_owners.Goals as goal
 
 pub returns-clause-holds : goal.returns-clause-holds

@@ -24,14 +24,14 @@ use Rattle.protocol.specs.Right.{action_reach, reach_of}
 use Rattle.protocol.specs.Contents.{stored_so_far}
 use Rattle.protocol.specs.Logs.{under_way_after, under_way_by, under_way}
 use Rattle.protocol.specs.Passes.{counted, split_off, views_of, keeps}
-use Rattle.protocol_runs.specs.Alone.{alone}
+use Rattle.protocol.specs.Alone.{alone}
 use Rattle.protocol.specs.CallTree.{Over, then_}
 use Rattle.protocol.specs.Permitted.{Follows}
 use Rattle.protocol.specs.Worlds.{WillDo}
 use Rattle.mon_model.specs.Examples.{r1}
-use Rattle.protocol_runs.specs.Alone.{two}
+use Rattle.protocol.specs.Alone.{two}
 use Rattle.protocol_runs.specs.Moments.{has_drawn_block, has_written_late}
-use Rattle.protocol_runs.proofs.Follow.{one_tree}
+use Rattle.protocol.proofs.Follow.{one_tree}
 use Rattle.protocol_runs.proofs.moments.still_to_do.Goals as goal
 
 no_write : {word : ℕ} → actions.Unlock r1 ≡ actions.Write r1 1 word → ⊥

@@ -4,7 +4,7 @@ use Rattle.protocol.specs.Views.{has_touched}
 use Rattle.protocol.specs.Records.{IsTouched}
 use Rattle.protocol_runs.specs.Moments.{touched_since_0}
 use Rattle.protocol.specs.Worlds.{state_now}
-use Rattle.protocol_runs.specs.Alone.{two}
+use Rattle.protocol.specs.Alone.{two}
 use Rattle.mon_types.proofs.Below.{by_two}
 use Rattle.protocol_runs.proofs.ByHand.{touched_2}
 use Rattle.mon_types.specs.Bits.{members}
@@ -29,7 +29,7 @@ use Rattle.protocol.specs.Right.{action_reach, reach_of}
 use Rattle.protocol.specs.Contents.{stored_so_far}
 use Rattle.protocol.specs.Logs.{under_way_after, under_way_by, under_way}
 use Rattle.protocol.specs.Passes.{counted, split_off, views_of, keeps}
-use Rattle.protocol_runs.specs.Alone.{alone}
+use Rattle.protocol.specs.Alone.{alone}
 use Rattle.protocol_runs.proofs.moments.touches_are_held.Goals as goal
 
 pub returns-clause-holds : goal.returns-clause-holds
