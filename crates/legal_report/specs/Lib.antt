@@ -1,0 +1,15 @@
+pub mod Form
+pub mod Counted
+pub mod Checks
+pub mod LegalReport
+pub mod Runs
+pub mod Printed
+pub mod Verdicts
+pub mod Laid
+pub mod Differs
+pub mod FirstFailing
+pub mod Kept
+pub mod Marks
+pub mod Drawn
+pub mod ByTickets
+pub mod Least
