@@ -1,5 +1,5 @@
 -- What is read off what is kept holds of every world that a list of permitted moves gives.
-use Rattle.std.proofs.Common.{◌≡◌, ◌<◌, ◌≤◌, ℕ, zero, suc, true, List, [], ◌∷◌, refl, sym, subst, arith}
+use Rattle.std.proofs.Common.{◌≡◌, ◌<◌, ◌≤◌, ℕ, zero, suc, true, List, [], ◌∷◌, ap, refl, sym, subst, arith}
 use Rattle.mon_types.specs.Shape.{Shape, is_shape}
 use Rattle.mon_model.specs.State.{State}
 use Rattle.hist.specs.declared.event.Entry.{Entry}
@@ -11,14 +11,16 @@ use Rattle.protocol.specs.Passes.{new_view, first_pass, views_of, view_count, Pa
 use Rattle.protocol.specs.Permitted.{Permitted}
 use Rattle.protocol.specs.Right.{Right}
 use Rattle.protocol.specs.Runs.{Made, moves_of, memory_after}
-use Rattle.protocol.specs.Moves.{place_of}
+use Rattle.protocol.specs.Moves.{action_place, place_of, word_found, action_outcome, outcome_of}
+use Rattle.protocol.specs.declared.action.Move.TheVariants as moves
 use Rattle.protocol.specs.Words.{IsPlaced}
 use Rattle.protocol.specs.Worlds.{World, state_now, world_after}
 use Rattle.protocol.specs.Logs.{EntriesAreLegal, LogsAreSafe}
 use Rattle.protocol.specs.Records.{LocksNameHolders, FreeRowsStand, HeldRowsStand, OwnWordsAreTrue, TouchesHold}
 use Rattle.protocol.specs.Contents.{LoadingHold, IdleHoldZeros}
 use Rattle.protocol.specs.Invariant.{CallingDoes, GivenStands, MoveKeeps, PermittedHasRight, PermittedIsPlaced}
-use Rattle.protocol_steps.specs.Laws.{Always, first_world, InvariantAtStart}
+use Rattle.protocol_steps.specs.Laws.{Always, first_world, InvariantAtStart, CallsGoOn}
+use Rattle.protocol_steps.proofs.Ending.{left_with}
 use Rattle.protocol_steps.proofs.Everything.{Everything, reached, item_10}
 use Rattle.protocol_steps.proofs.Items.{some_core, state_is, item_2, item_3, item_4, item_6, item_7}
 use Rattle.protocol_steps.proofs.Words.{item_5, item_8, item_9}
@@ -106,6 +108,16 @@ places_hold shape is memory moved h s content every m same none core move lt p =
 
 pub permitted_is_placed : PermittedIsPlaced
 permitted_is_placed = always PlacesHold places_hold
+
+-- a move of a call leaves what follows its outcome
+calls_go_on : HoldsThere CallsGoOn
+unfolding outcome_of place_of word_found
+calls_go_on shape is memory moved h s content every m same none core action lt p =
+    left_with shape is memory moved h s content every.all.kept core lt action p (action_outcome action (m (action_place action)))
+    (ap (action_outcome action) (same (action_place action) (is_placed shape is memory moved h s content every.all.kept core lt (moves.InCall action) p)))
+
+pub always_go_on : Always CallsGoOn
+always_go_on = always CallsGoOn calls_go_on
 
 -- ---- a move keeps all
 

@@ -1,7 +1,9 @@
 pub mod Views
 pub mod Goes
+pub mod Next
 pub mod Kept
 pub mod Moving
+pub mod Ending
 pub mod Looking
 pub mod Outside
 pub mod Whole

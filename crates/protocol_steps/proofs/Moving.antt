@@ -48,6 +48,7 @@ use Rattle.protocol_laws.proofs.Steps.{IsAtTree, stored_kept, at_others, at_take
 use Rattle.protocol_steps.specs.Stages.{Stage, Locking, Met, Drawn, Astray, stage_of, Goes, MayMake}
 use Rattle.protocol_steps.proofs.Views.{call_more, issuer_more, call_over, entries_append, entries_same, entries_before, IsOver, undrawn, each_moves, draws}
 use Rattle.protocol_steps.proofs.Goes.{goes_now}
+use Rattle.protocol_steps.proofs.Next.{none_drawn as undrawn_call, serial_next}
 use Rattle.protocol_steps.proofs.Kept.{AreOnce, CoreKept, Kept, core_frame, core_idle, after_more, mode_told, logs_more, drawn_sound, held_apart, not_free, low_ticket, log_mode, stands_still}
 
 -- ---- words
@@ -420,19 +421,9 @@ module _ (shape : Shape) (is : is_shape shape ≡ true) (memory : Memory) (moved
 
   -- ---- a ticket
 
-  draw_first : (call : Call) (draft : Draft) (stage : Stage) → MayMake shape call stage (actions.Draw draft) → IsOver stage → ⊥
-  draw_first call draft (Locking os) may over = over
-  draw_first call draft (Met lock holder serial os) may over = over
-  draw_first call draft (Drawn other) may over = may
-  draw_first call draft Astray may over = may
-
   -- it has none before
   pub none_drawn : (draft : Draft) → MayGoOn shape core (moved core) (actions.Draw draft) → has_drawn (call_moves (moved core)) ≡ false
-  none_drawn draft p = undrawn (call_moves (moved core)) (draw_first p.call draft (stage_of (call_moves (moved core))) (stage_goes (actions.Draw draft) p).0)
-
-  pub serial_next : has_drawn (call_moves (moved core)) ≡ false → (issuer_of core (moved core)).serial ≡ next_serial core (moved core)
-  unfolding issuer_of
-  serial_next d = ap length (entries_before core (moved core) d)
+  none_drawn draft p = undrawn_call shape (issuer_of core (moved core)) p.call (call_moves (moved core)) draft p.next p.follows
 
   pub entries_drawn : (draft : Draft) (ticket : ℕ) → entries_in core ((moves.InCall (actions.Draw draft), outcomes.Ticket ticket) ∷ moved core) ≡ entries_in core (moved core) ++ entry_of core draft ticket ∷ []
   unfolding core_log logged logged_by
@@ -459,7 +450,7 @@ module _ (shape : Shape) (is : is_shape shape ≡ true) (memory : Memory) (moved
       let facts = (kept.sound core lt).facts in
       let at = at_draw by p.call answers s content held memory draft ticket p.next (at_move (actions.Draw draft) p) (kept.sound core lt) in
       let first = none_drawn draft p in
-      let serial = serial_next first in
+      let serial = serial_next core (moved core) first in
       let long : memory Counter ≡ length h = kept.counter in
       let stands0 : Stands shape h1 (with_event (λ core. core_log core (moved core)) core (events.Entry e)) =
       entry_stands shape h (λ core. core_log core (moved core)) kept.stands e lt (omega (arith, long)) (at.0.next ∙ serial) (subst (λ z. IsLegalEntry z e) (sym kept.now) at.0.legal) in

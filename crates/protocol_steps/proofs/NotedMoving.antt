@@ -42,7 +42,8 @@ use Rattle.protocol_laws.proofs.Steps.{IsAtTree, at_met, at_draw}
 use Rattle.protocol_steps.specs.Stages.{Stage, Locking, Met, Drawn, Astray, stage_tried, stage_locking, stage_met, stage_by, stage_of, MayMake, Goes}
 use Rattle.protocol_steps.proofs.Views.{IsOver, undrawn, each_moves, call_more, issuer_more, call_over, are_none, in_rest}
 use Rattle.protocol_steps.proofs.Kept.{AreOnce, Kept}
-use Rattle.protocol_steps.proofs.Moving.{at_move, stage_goes, none_drawn, serial_next}
+use Rattle.protocol_steps.proofs.Moving.{at_move, stage_goes, none_drawn}
+use Rattle.protocol_steps.proofs.Next.{serial_next}
 use Rattle.protocol_steps.proofs.Outside.{issuer_stop}
 use Rattle.protocol_steps.proofs.Past.{stage_drawn}
 use Rattle.protocol_steps.proofs.CallKept.{AtStage}
@@ -249,7 +250,7 @@ module _ (shape : Shape) (is : is_shape shape ≡ true) (memory : Memory) (moved
 
   alive : (doing : ℕ → Call) (q : ℕ) (lq : q < shape.cores) (o : ObjectId) (os : List ObjectId) → has_drawn (call_moves (moved q)) ≡ false → os ≡ held_of (moved q) → taken_by (ways doing moved q) ≡ onto os [] → In o (held_of (moved q)) → HolderKnown doing q o
   alive doing q lq o os none has taken k =
-      let count = serial_next shape is memory moved h s content kept q lq none in
+      let count = serial_next q (moved q) none in
       let long = own_count q lq in
       record {
         begun = omega (arith, count, long);
@@ -343,7 +344,7 @@ module _ (shape : Shape) (is : is_shape shape ≡ true) (memory : Memory) (moved
     right = (at_draw (issuer_of core (moved core)) p.call (answers_of (moved core)) s content (held_of (moved core)) memory draft (suc (memory Counter)) p.next (at_move shape is memory moved h s content kept core lt (actions.Draw draft) p) (kept.sound core lt)).0
 
     serial_own : (issuer_of core (moved core)).serial ≡ length (own core h)
-    serial_own = serial_next shape is memory moved h s content kept core lt (none_drawn shape is memory moved h s content kept core lt draft p) ∙ own_count core lt
+    serial_own = serial_next core (moved core) (none_drawn shape is memory moved h s content kept core lt draft p) ∙ own_count core lt
 
     not_met : (reply : Reply) (lock : ObjectId) (q n : ℕ) → is_concurrent reply ≡ false → reply ≢ replies.ConcurrentCall lock q n
     not_met reply lock q n plain e = clash (sym plain ∙ ap is_concurrent e)

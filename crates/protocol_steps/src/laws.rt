@@ -5,7 +5,7 @@ ghost use Rattle.protocol.specs.Records.{LocksNameHolders, FreeRowsStand, HeldRo
 ghost use Rattle.protocol.specs.Contents.{LoadingHold, IdleHoldZeros};
 ghost use Rattle.protocol.specs.Passes.{MoveIsGiven};
 ghost use Rattle.protocol.specs.Invariant.{GivenStands, MoveKeeps, PermittedHasRight, PermittedIsPlaced};
-ghost use Rattle.protocol_steps.specs.Laws.{Always, InvariantAtStart};
+ghost use Rattle.protocol_steps.specs.Laws.{Always, InvariantAtStart, LeftIsPermitted, CallsGoOn};
 ghost use Rattle.protocol_steps.specs.Rest.{RestsWhereNoCallIs};
 
 /// In every world that a list of permitted moves gives, from any words of DRAM at the start: the entries are a
@@ -58,4 +58,14 @@ pub fn moves_are_right()
 /// a held lock is as it should be.
 pub fn all_at_rest()
     ensures { RestsWhereNoCallIs }
+{}
+
+/// Whatever a core's moves are: where its call under way has made the moves of a call up to this one, this one is
+/// permitted, a Draw too, since no call draws twice. The serial of the call is below 16,384.
+///
+/// In every world that a list of permitted moves gives: after a permitted move of a call its core is left with what
+/// follows the outcome in the call's tree, and no call is under way exactly where that is nothing.
+pub fn calls_may_go_on()
+    ensures permitted { LeftIsPermitted }
+    ensures left { Always CallsGoOn }
 {}
