@@ -1,0 +1,7 @@
+use Rattle.std.proofs.Common.{◌≡◌, ◌++◌, drop}
+use Rattle.call_machine.specs.Found.{region_rows}
+use Rattle.call_machine.proofs.rows.add_regions.Given as goal
+
+-- the rows that are left, behind what stands, make all
+abbrev pub invariant-loop-item : goal.invariant-loop-item
+invariant-loop-item l = l.words.items ++ region_rows (drop l.item-index l.items) ≡ l.initial.words.items ++ region_rows l.items
