@@ -1,6 +1,6 @@
-use Rattle.protocol_runs.proofs.Listing.{index_is_there, index_is_apart, set_is_at_place}
-use Rattle.protocol_runs.proofs.Everywhere.{list_is_there}
-use Rattle.protocol_runs.proofs.words.list_has_places.Goals as goal
+use Rattle.word_list.proofs.Listing.{index_is_there, index_is_apart, set_is_at_place}
+use Rattle.word_list.proofs.Everywhere.{list_is_there}
+use Rattle.word_list.proofs.laws.list_has_places.Goals as goal
 
 pub returns-clause-there : goal.returns-clause-there
 returns-clause-there c = index_is_there

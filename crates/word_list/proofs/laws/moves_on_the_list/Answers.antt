@@ -1,5 +1,5 @@
-use Rattle.protocol_runs.proofs.Listing.{found_is_listed, move_is_listed}
-use Rattle.protocol_runs.proofs.words.moves_on_the_list.Goals as goal
+use Rattle.word_list.proofs.Listing.{found_is_listed, move_is_listed}
+use Rattle.word_list.proofs.laws.moves_on_the_list.Goals as goal
 
 pub returns-clause-found : goal.returns-clause-found
 returns-clause-found c = found_is_listed

@@ -15,7 +15,7 @@ use Rattle.protocol_laws.proofs.Places.{at_place}
 
 -- ---- where places stand
 
-object_low : (shape : Shape) (o : ObjectId) → HasObject shape o → object_index shape o < object_count shape
+pub object_low : (shape : Shape) (o : ObjectId) → HasObject shape o → object_index shape o < object_count shape
 unfolding object_index
 object_low shape (objects.Enclave e) h = omega arith
 object_low shape (objects.Thread t) h = omega arith

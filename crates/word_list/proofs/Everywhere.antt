@@ -13,7 +13,7 @@ use Rattle.lock_plan.specs.Objects.{HasObject}
 use Rattle.protocol.specs.Places.{Place, Counter, Lock, Row, Dram, HasWord, Memory}
 use Rattle.protocol.specs.Layout.{object_count, object_index, enclaves_from, dram_from, word_count, row_index, place_index, all_objects, row_places, all_places, words_of_memory}
 use Rattle.protocol.specs.Words.{ListIsThere}
-use Rattle.protocol_runs.proofs.Listing.{row_from}
+use Rattle.word_list.proofs.Listing.{row_from}
 
 -- ---- what a list has at a number
 

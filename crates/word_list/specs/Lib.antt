@@ -1,0 +1,6 @@
+pub mod Listed
+pub mod Finds
+pub mod Pieces
+pub mod Records
+pub mod Kept
+pub mod Tables
