@@ -142,7 +142,7 @@ under_none image script run = refl
 abbrev pub AreBegun : Image → List (List Line) → List Made → Type 0
 AreBegun image script run = (core : ℕ) → core < image.config.cores → IsBegun (course_of image script core) (moves_of core run)
 
-begun_before : (image : Image) (script : List (List Line)) (made : Made) (run : List Made) → AreBegun image script (made ∷ run) → AreBegun image script run
+pub begun_before : (image : Image) (script : List (List Line)) (made : Made) (run : List Made) → AreBegun image script (made ∷ run) → AreBegun image script run
 begun_before image script made run b = λ core lt.
     elim (cases_Bool (eqb made.core core)) [
       | inl t ↦ (subst (IsBegun (course_of image script core)) (moves_own core made run (eqb-true made.core core t)) (b core lt)).0

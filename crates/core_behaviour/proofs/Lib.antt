@@ -1,4 +1,4 @@
-mod Words
-mod Stopping
-mod Lagging
+pub mod Words
+pub mod Stopping
+pub mod Lagging
 pub mod RunLaws

@@ -80,11 +80,11 @@ words_in_front image core (m ∷ ms) run h = λ p.
 
 -- ---- a step
 
-none_first : (move : Move) (P : Type 0) → first_of Ends ≡ Some move → P
+pub none_first : (move : Move) (P : Type 0) → first_of Ends ≡ Some move → P
 unfolding first_of
 none_first move P h = absurd cc
 
-acts_first : (x move : Move) (next : Outcome → Course) → first_of (Acts x next) ≡ Some move → x ≡ move
+pub acts_first : (x move : Move) (next : Outcome → Course) → first_of (Acts x next) ≡ Some move → x ≡ move
 unfolding first_of
 acts_first x move next h = cc
 
@@ -138,7 +138,7 @@ one_move image core (Acts x next) move run h real =
     let is : x ≡ move = acts_first x move next h in
     ap (λ (y : Move). step_from image core (Acts y next) run) is ∙ move_step image core move next run real
 
-acts_none : (x : Move) (next : Outcome → Course) (P : Type 0) → first_of (Acts x next) ≡ None → P
+pub acts_none : (x : Move) (next : Outcome → Course) (P : Type 0) → first_of (Acts x next) ≡ None → P
 unfolding first_of
 acts_none x next P h = absurd cc
 

@@ -1,0 +1,16 @@
+pub mod Tidy
+pub mod CallWords
+pub mod CallTidy
+pub mod Permits
+pub mod InCall
+pub mod Contexts
+pub mod Moving
+pub mod Exits
+pub mod Translations
+pub mod Effects
+pub mod GuestTurns
+pub mod Lines
+pub mod Courses
+pub mod GivenRuns
+pub mod Scheduled
+pub mod AtEnd

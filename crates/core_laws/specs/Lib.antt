@@ -1,0 +1,4 @@
+pub mod Outcomes
+pub mod Given
+pub mod Finished
+pub mod Laws
