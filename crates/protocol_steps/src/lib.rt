@@ -5,5 +5,6 @@
 mod laws;
 
 pub use laws::{
-    all_at_rest, calls_may_go_on, each_move_keeps, given_stands, invariant_at_start, moves_are_right, moves_keep,
+    all_at_rest, calls_may_go_on, each_move_keeps, given_stands, invariant_at_start,
+    moves_are_right, moves_keep,
 };

@@ -1,5 +1,5 @@
 -- A move by the index of its word is the move on the list; it finds what it may find, and locks stay lock words.
-use Rattle.std.proofs.Common.{◌≡◌, ◌∙◌, inl, inr, ℕ, zero, suc, ◌-◌, ◌<◌, ◌^◌, Bool, true, false, cond, Option, Some, None, List, ◌++◌, length, get_or, set, sym, ap, subst, refl, arith}
+use Rattle.std.proofs.Common.{◌≡◌, ◌∙◌, inl, inr, ℕ, zero, suc, ◌-◌, ◌<◌, ◌^◌, Bool, true, false, cond, Option, Some, None, List, length, get_or, set, sym, ap, subst, refl, arith}
 use Rattle.std.specs.Option.{option_map}
 use Rattle.std.proofs.lemmas.List.{length-append}
 use Rattle.mon_types.specs.Shape.{Shape}
@@ -11,7 +11,7 @@ use Rattle.protocol.specs.declared.action.Action.TheVariants as actions
 use Rattle.protocol.specs.declared.action.Move.{Move}
 use Rattle.protocol.specs.declared.action.Move.TheVariants as moves
 use Rattle.protocol.specs.declared.action.Outcome.TheVariants as outcomes
-use Rattle.protocol.specs.Places.{Place, Lock, HasWord, Memory, same_place, with_word}
+use Rattle.protocol.specs.Places.{Place, Lock, Memory, same_place, with_word}
 use Rattle.protocol.specs.Moves.{action_place, place_of, word_found, outcome_of, try_leaves, action_leaves, leaves, left_at, memory_after_move}
 use Rattle.protocol.specs.Layout.{word_count, place_index, Holds}
 use Rattle.protocol.specs.Words.{IsPlaced, listed_word, list_with, words_after_move}

@@ -1,7 +1,6 @@
 -- What a TryLock answers and leaves.
-use Rattle.std.proofs.Common.{◌≡◌, ◌∙◌, inl, inr, ℕ, zero, suc, ◌+◌, ◌*◌, ◌/◌, ◌%◌, Option, Some, None, ap, refl, arith}
+use Rattle.std.proofs.Common.{◌≡◌, ◌∙◌, inl, inr, ℕ, zero, suc, ◌/◌, ◌%◌, Option, Some, None, ap, refl, arith}
 use Rattle.mon_types.specs.Locks.{IsLock}
-use Rattle.protocol.specs.declared.action.Outcome.{Outcome}
 use Rattle.protocol.specs.declared.action.Outcome.TheVariants as outcomes
 use Rattle.protocol.specs.Moves.{try_outcome, try_leaves}
 use Rattle.word_list.specs.Finds.{IsLockWord}

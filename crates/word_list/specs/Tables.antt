@@ -1,5 +1,5 @@
 -- The tables that a memory holds, and that those of a finished run are these. This project's own.
-use Rattle.std.specs.Prelude.{◌≡◌, ℕ, List, map}
+use Rattle.std.specs.Prelude.{◌≡◌, List, map}
 use Rattle.std.specs.List.{range_with_len}
 use Rattle.mon_types.specs.Shape.{Shape}
 use Rattle.mon_types.specs.Sizes.{slot_count, thread_count}

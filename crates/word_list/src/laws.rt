@@ -5,8 +5,8 @@ ghost use Rattle.protocol.specs.Layout.{IndexIsThere, IndexIsApart, SetIsAtPlace
 ghost use Rattle.protocol.specs.Words.{ListIsThere, FoundIsListed, MoveIsListed};
 ghost use Rattle.word_list.specs.Tables.{TablesAreThoseOfARun};
 
-/// Each place of the machine has a place in the list, no two have the same, one word that is changed is one word that is
-/// set, and the list that holds what stands at all places is there.
+/// Each place of the machine has a place in the list, no two have the same, one word that is changed is one word that
+/// is set, and the list that holds what stands at all places is there.
 pub fn list_has_places()
     ensures there { IndexIsThere }
     ensures apart { IndexIsApart }

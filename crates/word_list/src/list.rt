@@ -68,15 +68,18 @@ impl WordList {
     pub fn perform(&mut self, core: u8, serial: u32, action: &Move) -> Outcome
         requires core { core < 16 }
         requires possible { CanBeMade self.old action.now }
-        ensures outcome { (memory : Memory) → StandsFor self.old memory → result ≡ outcome_of action.now (word_found memory (place_of action.now)) }
-        ensures words { (memory : Memory) → StandsFor self.old memory → StandsFor self.new (memory_after_move (lock_word core serial) memory action.now) }
+        ensures outcome { (memory : Memory) → StandsFor self.old memory
+            → result ≡ outcome_of action.now (word_found memory (place_of action.now)) }
+        ensures words { (memory : Memory) → StandsFor self.old memory
+            → StandsFor self.new (memory_after_move (lock_word core serial) memory action.now) }
         ensures machine { self.new.shape ≡ self.old.shape }
     {
         match move_index(&self.config, action) {
             None => Outcome::Done,
             Some(at) => {
                 let found = self.words.word(at);
-                self.words.put(at, leaves(pack_lock(core, serial), action, found));
+                self.words
+                    .put(at, leaves(pack_lock(core, serial), action, found));
                 outcome_of(action, found)
             }
         }

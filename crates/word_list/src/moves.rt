@@ -1,6 +1,6 @@
 //! What a move answers and leaves, by the word that it finds.
 
-ghost use Rattle.std.specs.Prelude.{◌≡◌};
+ghost use Rattle.std.specs.Prelude.{◌≡◌, ◌==◌, if◌then◌else◌};
 ghost use Rattle.protocol.specs.Moves.{try_outcome, swap_outcome, action_outcome, outcome_of, try_leaves, action_leaves, leaves};
 ghost use Rattle.word_list.specs.Finds.{IsLockWord, ActionFinds, Finds};
 
@@ -80,6 +80,13 @@ fn action_leaves(mine: u64, action: &Action, found: u64) -> u64
     }
 }
 
+/// What a Swap leaves: the value where the word is the one that was loaded.
+fn swap_leaves(loaded: u64, value: u64, found: u64) -> u64
+    ensures { result ≡ (if found == loaded then value else found) }
+{
+    if found == loaded { value } else { found }
+}
+
 /// What any move leaves where it finds this word.
 #[tactic(auto, unfolding(protocol::specs::Moves::leaves))]
 pub(crate) fn leaves(mine: u64, action: &Move, found: u64) -> u64
@@ -90,12 +97,6 @@ pub(crate) fn leaves(mine: u64, action: &Move, found: u64) -> u64
         Move::InCall(action) => action_leaves(mine, &action, found),
         Move::Look { .. } | Move::Load { .. } | Move::Stop { .. } => found,
         Move::Store { value, .. } => value,
-        Move::Swap { loaded, value, .. } => {
-            if found == loaded {
-                value
-            } else {
-                found
-            }
-        }
+        Move::Swap { loaded, value, .. } => swap_leaves(loaded, value, found),
     }
 }

@@ -18,6 +18,18 @@ use std::test::Fail;
 
 const R3: ObjectId = ObjectId::Region(3);
 
+const C0: ObjectId = ObjectId::Cell(0);
+
+const C1: ObjectId = ObjectId::Cell(1);
+
+const E3: ObjectId = ObjectId::Enclave(3);
+
+const E4: ObjectId = ObjectId::Enclave(4);
+
+const E7: ObjectId = ObjectId::Enclave(7);
+
+const T15: ObjectId = ObjectId::Thread(15);
+
 /// The words of the plain machine of two cores, with zeros in DRAM.
 fn plain_words(alloc: Global) -> Result<WordList, AllocError>
     ensures { IfOk result (λ l. l.shape ≡ plain 2) }
@@ -106,7 +118,7 @@ fn a_lock_is_taken_once(rt: HostRuntime) -> Result<(), Fail> {
     expect(&rt, &mut words, 1, 16383, take(R3), Outcome::Taken);
     expect(&rt, &mut words, 0, 7, take(R3), first);
     expect(&rt, &mut words, 1, 16384, take(R3), first);
-    expect(&rt, &mut words, 0, 7, take(ObjectId::Cell(0)), Outcome::Taken);
+    expect(&rt, &mut words, 0, 7, take(C0), Outcome::Taken);
     expect(&rt, &mut words, 1, 16383, give(R3), Outcome::Done);
     expect(&rt, &mut words, 0, 7, take(R3), Outcome::Taken);
     let second = Outcome::HeldBy { core: 0, serial: 7 };
@@ -118,11 +130,10 @@ fn a_lock_is_taken_once(rt: HostRuntime) -> Result<(), Fail> {
 #[tactic(auto, unfolding(protocol::specs::Moves::place_of, protocol::specs::Moves::action_place, mon_types::specs::Objects::width))]
 fn a_row_is_written_and_read(rt: HostRuntime) -> Result<(), Fail> {
     let mut words = plain_words(rt.alloc())?;
-    let e3 = ObjectId::Enclave(3);
-    expect(&rt, &mut words, 0, 0, write(e3, 28, 77), Outcome::Done);
-    expect(&rt, &mut words, 1, 0, read(e3, 28), Outcome::Word(77));
-    expect(&rt, &mut words, 1, 0, read(e3, 27), Outcome::Word(0));
-    expect(&rt, &mut words, 1, 0, read(ObjectId::Enclave(4), 0), Outcome::Word(0));
+    expect(&rt, &mut words, 0, 0, write(E3, 28, 77), Outcome::Done);
+    expect(&rt, &mut words, 1, 0, read(E3, 28), Outcome::Word(77));
+    expect(&rt, &mut words, 1, 0, read(E3, 27), Outcome::Word(0));
+    expect(&rt, &mut words, 1, 0, read(E4, 0), Outcome::Word(0));
     expect(&rt, &mut words, 0, 0, read(R3, 0), Outcome::Word(1));
     expect(&rt, &mut words, 0, 0, read(R3, 1), Outcome::Word(0));
     Ok(())
@@ -171,7 +182,8 @@ fn a_swap_stores_where_nobody_has_stored(rt: HostRuntime) -> Result<(), Fail> {
     expect(&rt, &mut words, 1, 0, swap, Outcome::Done);
     expect(&rt, &mut words, 0, 0, swap, again);
     expect(&rt, &mut words, 0, 0, Move::Load { word }, Outcome::Word(8));
-    expect(&rt, &mut words, 0, 0, Move::Load { word: 0 }, Outcome::Word(0));
+    let load = Move::Load { word: 0 };
+    expect(&rt, &mut words, 0, 0, load, Outcome::Word(0));
     Ok(())
 }
 
@@ -179,17 +191,18 @@ fn a_swap_stores_where_nobody_has_stored(rt: HostRuntime) -> Result<(), Fail> {
 #[tactic(auto, unfolding(protocol::specs::Moves::place_of, protocol::specs::Moves::action_place, mon_types::specs::Objects::width))]
 fn rows_hold_records(rt: HostRuntime) -> Result<(), Fail> {
     let mut words = plain_words(rt.alloc())?;
-    let e7 = ObjectId::Enclave(7);
-    let t15 = ObjectId::Thread(15);
     // blocked at 9 since 0, a Loading enclave of 4,096 bytes, and a thread of enclave 7
     expect(&rt, &mut words, 0, 0, write(R3, 0, 2), Outcome::Done);
     expect(&rt, &mut words, 0, 0, write(R3, 1, 9), Outcome::Done);
-    expect(&rt, &mut words, 0, 0, write(e7, 0, 1), Outcome::Done);
-    expect(&rt, &mut words, 0, 0, write(e7, 2, 4096), Outcome::Done);
-    expect(&rt, &mut words, 0, 0, write(t15, 0, 8), Outcome::Done);
-    expect(&rt, &mut words, 0, 0, write(t15, 1, 64), Outcome::Done);
-    expect(&rt, &mut words, 0, 0, write(ObjectId::Cell(1), 0, 5), Outcome::Done);
-    let store = Move::Store { word: 4095, value: 7 };
+    expect(&rt, &mut words, 0, 0, write(E7, 0, 1), Outcome::Done);
+    expect(&rt, &mut words, 0, 0, write(E7, 2, 4096), Outcome::Done);
+    expect(&rt, &mut words, 0, 0, write(T15, 0, 8), Outcome::Done);
+    expect(&rt, &mut words, 0, 0, write(T15, 1, 64), Outcome::Done);
+    expect(&rt, &mut words, 0, 0, write(C1, 0, 5), Outcome::Done);
+    let store = Move::Store {
+        word: 4095,
+        value: 7,
+    };
     expect(&rt, &mut words, 0, 0, store, Outcome::Done);
     compare(&rt, words.into_tables());
     Ok(())
@@ -214,9 +227,7 @@ fn compare(rt: &impl Abort, tables: Tables) {
         entry: 64,
         ..Thread::empty()
     };
-    let regions = [
-        owned, owned, owned, blocked, owned, owned, owned, owned,
-    ];
+    let regions = [owned, owned, owned, blocked, owned, owned, owned, owned];
     assert_eq!(rt; tables.regions.as_slice(), regions.as_slice());
     assert_eq!(rt; tables.enclaves.len(), 8);
     assert_eq!(rt; tables.enclaves.as_slice().first(), Some(&Enclave::empty()));

@@ -21,9 +21,10 @@ pub returns-in-HeldBy : goal.returns-in-HeldBy
 unfolding action_outcome
 returns-in-HeldBy c = λ e.
     let core = c.in-HeldBy.core in
-    let serial = c.in-HeldBy.serial in
-    (suc (2 * core + 32 * serial),
-    c.in-HeldBy.is ∙ sym (held core serial (ltb-true core 16 e)) ∙ sym (ap (λ a. action_outcome a (suc (2 * core + 32 * serial))) c.in-TryLock.is))
+    let serial = c.in-HeldBy.serial in (
+      suc (2 * core + 32 * serial),
+      c.in-HeldBy.is ∙ sym (held core serial (ltb-true core 16 e)) ∙ sym (ap (λ a. action_outcome a (suc (2 * core + 32 * serial))) c.in-TryLock.is),
+    )
 
 pub returns-in-Word : goal.returns-in-Word
 unfolding action_outcome

@@ -1,6 +1,4 @@
 use Rattle.std.proofs.Common.{◌≡◌, ◌+◌, ◌<◌, ℕ, sym, subst, set, arith}
-use Rattle.mon_types.specs.declared.object.ObjectId.TheVariants as objects
-use Rattle.protocol.specs.Layout.{row_index}
 use Rattle.word_list.specs.Pieces.{AreOwnedBelow}
 use Rattle.word_list.proofs.Rows.{own_low}
 use Rattle.word_list.proofs.Start.{owned_more}

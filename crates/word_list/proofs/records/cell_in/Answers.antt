@@ -1,4 +1,4 @@
-use Rattle.std.proofs.Common.{◌≡◌, ◌∙◌, ℕ, List, ap, sym, lit<, arith}
+use Rattle.std.proofs.Common.{◌∙◌, ap, lit<, arith}
 use Rattle.mon_types.specs.Objects.{width}
 use Rattle.mon_types.specs.Cells.{cell_from}
 use Rattle.mon_types.specs.declared.object.ObjectId.TheVariants as objects

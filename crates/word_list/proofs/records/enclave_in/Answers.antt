@@ -1,4 +1,4 @@
-use Rattle.std.proofs.Common.{◌≡◌, ◌∙◌, ℕ, ap, lit<}
+use Rattle.std.proofs.Common.{◌∙◌, ℕ, ap, lit<}
 use Rattle.mon_types.specs.Objects.{width}
 use Rattle.mon_types.specs.Enclaves.{enclave_from, enclave_within}
 use Rattle.mon_types.specs.declared.object.ObjectId.TheVariants as objects

@@ -1,4 +1,4 @@
-use Rattle.std.proofs.Common.{◌≡◌, ◌∙◌, ℕ, List, ap, sym, lit<, arith}
+use Rattle.std.proofs.Common.{◌∙◌, ap, lit<, arith}
 use Rattle.mon_types.specs.Objects.{width}
 use Rattle.mon_types.specs.Owns.{region_from}
 use Rattle.mon_types.specs.declared.object.ObjectId.TheVariants as objects
@@ -18,5 +18,5 @@ word-requires-2 c =
 
 pub returns : goal.returns
 returns c =
-    c.unwrap_or.ensures ∙ or_free _ ∙ c.unpack_own.ensures.read
+    c.unwrap_or.ensures ∙ or_free c.unpack_own.result ∙ c.unpack_own.ensures.read
     ∙ ap region_from (region_row_is _ _ _ _ _ _ c.row_index-at.ensures.index c.word.ensures c.word-2.ensures)

@@ -1,4 +1,4 @@
-use Rattle.std.proofs.Common.{◌≡◌, ◌≤◌, map, vec_capacity}
+use Rattle.std.proofs.Common.{◌≡◌, map, vec_capacity}
 use Rattle.std.specs.List.{range_with_len}
 use Rattle.word_list.specs.Pieces.{joined}
 use Rattle.word_list.specs.Records.{thread_listed}

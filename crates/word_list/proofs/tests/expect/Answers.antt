@@ -1,5 +1,5 @@
-use Rattle.std.proofs.Common.{◌≡◌, ◌<◌, ◌-◌, ◌^◌, ℕ, sym, subst, arith}
-use Rattle.mon_types.specs.Shape.{Shape, plain}
+use Rattle.std.proofs.Common.{◌<◌, ◌-◌, ◌^◌, sym, subst, arith}
+use Rattle.mon_types.specs.Shape.{Shape}
 use Rattle.protocol.specs.Moves.{place_of}
 use Rattle.protocol.specs.Words.{IsPlaced}
 use Rattle.word_list.specs.Listed.{tickets_in}

@@ -1,7 +1,5 @@
-use Rattle.std.proofs.Common.{◌≡◌, ℕ, sym, ap, subst}
-use Rattle.mon_types.specs.Shape.{Shape}
+use Rattle.std.proofs.Common.{sym, ap, subst}
 use Rattle.word_list.specs.Listed.{Listed, StandsFor}
-use Rattle.word_list.specs.Tables.{AreTablesOf}
 use Rattle.word_list.proofs.Reading.{tables_along, tables_read}
 use Rattle.word_list.proofs.list.WordList.into_tables.Goals as goal
 

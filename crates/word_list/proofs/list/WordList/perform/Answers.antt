@@ -1,8 +1,6 @@
-use Rattle.std.proofs.Common.{◌≡◌, ◌∙◌, ◌<◌, ◌^◌, ℕ, List, length, sym, ap, subst, arith}
+use Rattle.std.proofs.Common.{◌∙◌, ◌<◌, ◌^◌, sym, ap, subst, arith}
 use Rattle.mon_types.specs.Locks.{lock_word}
-use Rattle.protocol.specs.Places.{Memory}
-use Rattle.protocol.specs.Moves.{place_of, outcome_of, memory_after_move}
-use Rattle.protocol.specs.Layout.{Holds}
+use Rattle.protocol.specs.Moves.{outcome_of, memory_after_move}
 use Rattle.word_list.specs.Listed.{Listed, StandsFor, CanBeMade}
 use Rattle.word_list.specs.Finds.{Finds}
 use Rattle.word_list.specs.Pieces.{joined}

@@ -1,4 +1,4 @@
-use Rattle.std.proofs.Common.{◌≡◌, ◌∙◌, ap, arith}
+use Rattle.std.proofs.Common.{◌∙◌, ap, arith}
 use Rattle.word_list.specs.Listed.{tickets_in}
 use Rattle.word_list.proofs.Made.{whole_list}
 use Rattle.word_list.proofs.list.WordList.tickets.Goals as goal

@@ -1,4 +1,3 @@
-use Rattle.std.proofs.Common.{◌≡◌, ◌∙◌, ap}
 use Rattle.word_list.proofs.Rows.{part_of}
 use Rattle.word_list.proofs.pieces.Pieces.row.Goals as goal
 
