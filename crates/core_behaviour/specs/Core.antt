@@ -20,11 +20,7 @@ use Rattle.protocol.specs.declared.action.Move.{Move}
 use Rattle.protocol.specs.declared.action.Outcome.{Outcome}
 use Rattle.protocol.specs.CallTree.{Issuer}
 use Rattle.protocol.specs.Views.{logged, answered}
-
--- why an enclave is left by the machine: the cause that is saved, and its value
-pub record Exit : Type 0 where
-  pub cause : ℕ
-  pub value : ℕ
+pub use Rattle.core_behaviour.specs.declared.exit.Exit.{Exit}
 
 -- Its number; its pc and registers, and those of the OS, kept while it is inside an enclave; satp; the addresses and
 -- the root of the enclave that it is inside; whether a line of the script made the last Ok enter; its translations, set

@@ -123,7 +123,7 @@ finished_run image run =
 -- ---- RunOf
 
 -- F is the finished run of this list of core numbers: the cores make a step for each number of it, and then in turn,
--- from core 0, until all have ended. A core that has ended makes none, so it is the same F after more rounds.
+-- from core 0, until all have ended. A core that has ended makes no step.
 pub record IsFinishedBy (image : Image) (script : List (List Line)) (q : List ℕ) (f : Finished) : Type 0 where
   pub count : ℕ
   pub ended : HaveEnded image script (run_by image script q count)

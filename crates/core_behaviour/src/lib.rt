@@ -4,6 +4,8 @@
 //! The definitions stand in `specs/`; no code here runs.
 #![tactic(auto)]
 
+mod exit;
 mod laws;
 
+pub use exit::Exit;
 pub use laws::runs_are_of_their_cores;
