@@ -16,6 +16,7 @@ use Rattle.mon_types.specs.Modes.{own_slot}
 use Rattle.mon_model.specs.State.{State}
 use Rattle.mon_model.specs.Early.{early}
 use Rattle.mon_model.specs.InRange.{IsInRange}
+use Rattle.mon_model.proofs.InRange.{not_refused}
 use Rattle.mon_model.specs.Step.{reply_of, changed}
 use Rattle.lock_plan.specs.Objects.{HasObject, IsCaller}
 use Rattle.sv39_pte.specs.Tables.{pte_place, leads_to_table, page_led_to, last_place}
@@ -36,7 +37,7 @@ use Rattle.protocol.specs.Views.{held_by, is_last}
 use Rattle.core_behaviour.specs.Called.{found_by}
 use Rattle.core_laws.specs.Outcomes.{IsWord, IsTried, IsTicket}
 use Rattle.core_laws.proofs.Tidy.{IsReply, AreRows, IsDraft, IsTidy, clash, goes, ends, word_less, ticket_less}
-use Rattle.core_laws.proofs.CallWords.{all_append, early_reply, reply_fits, words_reply_fits, met_reply, calls_range, pte_fits, early_fits, rows_fit, effect_fits, found_fits, all_planned, behind_there, frees_tried}
+use Rattle.core_laws.proofs.CallWords.{all_append, early_reply, reply_fits, words_reply_fits, met_reply, pte_fits, early_fits, rows_fit, effect_fits, found_fits, all_planned, behind_there, frees_tried}
 
 -- where nothing is held a call is over, and else it goes on
 abbrev Rests : Shape → Call → List ObjectId → Found → Reply → Tree → Type 0
@@ -166,7 +167,7 @@ module _ (shape : Shape) (is : is_shape shape ≡ true) (by : Issuer) (caller : 
 
   module _ (ok : early shape by.mode call ≡ None) (found : Found) (rows : AreRows found) (frees : FreesNone call (objects_of found)) where
     range : IsInRange shape call
-    range = calls_range shape by.mode call ok
+    range = not_refused shape by.mode call ok
 
     changes : (reply : Reply) (digest : List ℕ) (k : ℕ) → k < 2 ^ 32 → AreInRange (changed reply (state_of shape by.mode found) by.core call digest k)
     unfolding state_of

@@ -38,7 +38,6 @@ use Rattle.mon_types.specs.declared.object.ObjectId.TheVariants as objects
 use Rattle.mon_model.specs.State.{State, region_at, enclave_at, thread_at, loaded_at, mode_of}
 use Rattle.mon_model.specs.Early.{early, is_unsupported, is_wrong_mode, is_bad_value}
 use Rattle.mon_model.specs.InRange.{IsInRange}
-use Rattle.mon_model.proofs.InRange.{in_range}
 use Rattle.mon_model.specs.RegionCalls.{is_empty, block_reply, free_reply, assign_reply, region_info_reply, accept_region_reply, owner_word, is_free, acts_for, blocked}
 use Rattle.mon_model.specs.EnclaveCalls.{is_os_owned, leaf_fits}
 use Rattle.mon_model.specs.Loading.{takes_page, has_place_for_leaf}
@@ -50,6 +49,7 @@ use Rattle.lock_plan.proofs.Order.{Rises, every_rises}
 use Rattle.mon_enclaves.specs.ByWords.{leaf_path, words_fit}
 use Rattle.mon_enclaves.specs.LoadReply.{words_reply}
 use Rattle.loaded_pages.specs.Content.{loaded_pte}
+use Rattle.loaded_pages.proofs.Cases.{some_same}
 use Rattle.mon_records.specs.Ranges.{AreInRange, IsCall}
 use Rattle.mon_records.specs.Rows.{Found, row_words, words_of, same_object}
 use Rattle.mon_records.specs.Rebuilt.{found_region, found_enclave, found_thread, found_cell, state_of}
@@ -185,18 +185,15 @@ held_fits s core (calls.AcceptRegion r) h = accept_fits (own_slot (mode_of s cor
 held_fits s core (calls.Reserve e va page perms) h = done_fits _
 held_fits s core (calls.Unknown number args) h = record { words = (omega arith, tt) }
 
-some_reply : {a b : Reply} → Some a ≡ Some b → a ≡ b
-some_reply e = cc
-
 -- a reply that tells a word of its number alone
 pub record IsRefusal (r : Reply) : Type 0 where
   pub fits : IsReply r
   pub refuses : is_done r ≡ false
 
 refusals : (a b c : Bool) (refusal : Reply) → cond a (Some replies.Unsupported) (cond b (Some replies.AccessDenied) (cond c (Some replies.InvalidValue) None)) ≡ Some refusal → IsRefusal refusal
-refusals true b c refusal e = subst IsRefusal (some_reply e) (record { fits = record { words = (omega arith, tt) }; refuses = refl })
-refusals false true c refusal e = subst IsRefusal (some_reply e) (record { fits = denied; refuses = refl })
-refusals false false true refusal e = subst IsRefusal (some_reply e) (record { fits = record { words = (omega arith, tt) }; refuses = refl })
+refusals true b c refusal e = subst IsRefusal (some_same e) (record { fits = record { words = (omega arith, tt) }; refuses = refl })
+refusals false true c refusal e = subst IsRefusal (some_same e) (record { fits = denied; refuses = refl })
+refusals false false true refusal e = subst IsRefusal (some_same e) (record { fits = record { words = (omega arith, tt) }; refuses = refl })
 refusals false false false refusal e = absurd (cc)
 
 pub early_reply : (shape : Shape) (mode : Mode) (call : Call) (refusal : Reply) → early shape mode call ≡ Some refusal → IsRefusal refusal
@@ -225,15 +222,6 @@ pub met_reply : (shape : Shape) (o : ObjectId) (holder serial : ℕ) → is_shap
 met_reply shape o holder serial is h a b = record { words = (omega arith, (object_less shape o is h, (a, (b, tt)))) }
 
 -- ---- words that are written
-
-pub calls_range : (shape : Shape) (mode : Mode) (call : Call) → early shape mode call ≡ None → IsInRange shape call
-calls_range shape mode call e = in_range shape call (last_passed (is_unsupported call) (is_wrong_mode mode call) (is_bad_value shape call) e)
-  where
-    last_passed : (u w b : Bool) → cond u (Some replies.Unsupported) (cond w (Some replies.AccessDenied) (cond b (Some replies.InvalidValue) None)) ≡ None → b ≡ false
-    last_passed true w b h = absurd (cc)
-    last_passed false true b h = absurd (cc)
-    last_passed false false true h = absurd (cc)
-    last_passed false false false h = refl
 
 pub pte_fits : (shape : Shape) (call : Call) → is_shape shape ≡ true → IsInRange shape call → IsWord (loaded_pte call)
 pte_fits shape (calls.LoadTable e va level page) is h = let few = few_pages shape is in let p = h.2 in omega arith

@@ -17,7 +17,8 @@ use Rattle.core_context.specs.declared.context.Context.{Context}
 use Rattle.core_context.specs.Registers.{saved_context}
 use Rattle.protocol.specs.Views.{Moves}
 use Rattle.core_behaviour.specs.Course.{Course, Ends}
-use Rattle.core_behaviour.specs.Core.{Core, Exit, is_spent}
+use Rattle.core_behaviour.specs.declared.exit.Exit.{Exit}
+use Rattle.core_behaviour.specs.Core.{Core, is_spent}
 use Rattle.core_behaviour.specs.Exits.{tried, retried, exits, ticks}
 use Rattle.core_behaviour.specs.Traps.{stops}
 use Rattle.core_behaviour.specs.Lines.{Lined, in_budget, budgeted}

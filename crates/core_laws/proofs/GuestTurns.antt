@@ -26,7 +26,8 @@ use Rattle.core_access.specs.Words.{place_in, instruction_at, loaded_from, store
 use Rattle.protocol.specs.declared.action.Move.TheVariants as moves
 use Rattle.protocol.specs.Views.{Moves}
 use Rattle.core_behaviour.specs.Course.{Course}
-use Rattle.core_behaviour.specs.Core.{Core, Exit, mode_now}
+use Rattle.core_behaviour.specs.declared.exit.Exit.{Exit}
+use Rattle.core_behaviour.specs.Core.{Core, mode_now}
 use Rattle.core_behaviour.specs.Traps.{Turned, came_back, traps_in, traps}
 use Rattle.core_behaviour.specs.Turns.{set_register, go_to, at_next, stores, has_stored, retired, swaps, loads_on, loads_bytes, stores_in, stores_on, stores_bytes, combines_on, combines, fences_in, carried_out, executed, fetched, instruction, ends_or_goes, after_retry, turned}
 use Rattle.core_behaviour.specs.Lines.{Lined, word_loaded_on, word_loaded, word_stored_on, word_stored, turns_on, turns}
@@ -44,7 +45,7 @@ pick : (b : Bool) (x y : Call) → IsCall x → IsCall y → IsCall (cond b x y)
 pick true x y h k = h
 pick false x y h k = k
 
-call_fits : (n a b c d e f : ℕ) → IsWord n → IsWord a → IsWord b → IsWord c → IsWord d → IsWord e → IsWord f → IsCall (call_of n a b c d e f)
+pub call_fits : (n a b c d e f : ℕ) → IsWord n → IsWord a → IsWord b → IsWord c → IsWord d → IsWord e → IsWord f → IsCall (call_of n a b c d e f)
 unfolding call_of
 call_fits n a b c d e f hn ha hb hc hd he hf =
     pick (n == 1) _ _ (record { words = (ha, tt); all = tt })

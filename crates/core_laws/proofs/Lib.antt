@@ -10,6 +10,7 @@ pub mod Translations
 pub mod Effects
 pub mod GuestTurns
 pub mod Lines
+pub mod Inputs
 pub mod Courses
 pub mod GivenRuns
 pub mod Scheduled

@@ -34,7 +34,8 @@ use Rattle.protocol.specs.Views.{Moves, held_of, touch_in, logged, core_log, ent
 use Rattle.protocol.specs.Permitted.{most_entries}
 use Rattle.protocol_steps.proofs.Views.{draws, entries_same, entries_append, none_held, before_none}
 use Rattle.core_behaviour.specs.Course.{Course}
-use Rattle.core_behaviour.specs.Core.{Core, Exit, mode_now, issuer_now, made}
+use Rattle.core_behaviour.specs.declared.exit.Exit.{Exit}
+use Rattle.core_behaviour.specs.Core.{Core, mode_now, issuer_now, made}
 use Rattle.core_behaviour.specs.Called.{reply_in, found_in, change_by, pending_after, left_by, left_if, called}
 use Rattle.core_laws.proofs.Tidy.{IsTidy}
 use Rattle.core_laws.proofs.CallWords.{found_fits}

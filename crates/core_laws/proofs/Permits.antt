@@ -16,7 +16,8 @@ use Rattle.protocol.specs.declared.action.Outcome.{Outcome}
 use Rattle.protocol.specs.Views.{Moves, core_log, answers_of, call_moves, has_touched, next_serial, mode_in, own_lock_word}
 use Rattle.protocol.specs.Permitted.{Permitted, most_entries}
 use Rattle.core_behaviour.specs.Course.{Course, Ends, Acts, first_of, behind, left_of, IsBegun}
-use Rattle.core_behaviour.specs.Core.{Core, Exit}
+use Rattle.core_behaviour.specs.declared.exit.Exit.{Exit}
+use Rattle.core_behaviour.specs.Core.{Core}
 use Rattle.core_behaviour.proofs.Stopping.{none_first, acts_first, acts_none}
 use Rattle.core_laws.specs.Outcomes.{IsWord, MayAnswer, AreAnswered}
 

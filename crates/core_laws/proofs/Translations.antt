@@ -33,7 +33,9 @@ use Rattle.core_access.specs.Causes.{access_fault, page_fault}
 use Rattle.core_access.specs.Routes.{is_inside, os_route, own_route, route_of}
 use Rattle.core_access.specs.Looks.{since_in_word}
 use Rattle.core_access.specs.Words.{place_in}
+use Rattle.loaded_pages.proofs.Cases.{some_same}
 use Rattle.loaded_pages.proofs.Changes.{page_home}
+use Rattle.loaded_pages.proofs.Loads.{and_left, and_right}
 use Rattle.protocol.specs.declared.action.Move.{Move}
 use Rattle.protocol.specs.declared.action.Move.TheVariants as moves
 use Rattle.protocol.specs.declared.action.Outcome.{Outcome}
@@ -68,11 +70,8 @@ all_found : {X : Type 0} (P : X → Type 0) (p : X → Bool) (xs : List X) (x : 
 all_found P p [] x h e = absurd (cc)
 all_found {X} P p (y ∷ ys) x h e = by (p y) e (λ f. all_found P p ys x h.1 f)
   where
-    some : {a b : X} → Some a ≡ Some b → a ≡ b
-    some f = cc
-
     by : (b : Bool) → cond b (Some y) (find p ys) ≡ Some x → (find p ys ≡ Some x → P x) → P x
-    by true f k = subst P (some f) h.0
+    by true f k = subst P (some_same f) h.0
     by false f k = k f
 
 all_without : (P : Entry → Type 0) (set : ℕ) (es : List Entry) → AllByRecursion P es → AllByRecursion P (without_oldest set es)
@@ -101,43 +100,21 @@ all_filled P es e h p =
 address_page : (shape : Shape) (address page : ℕ) → page_of shape address ≡ Some page → page < page_total shape
 address_page shape address page e = by (is_in_dram shape address) refl e
   where
-    some : {a b : ℕ} → Some a ≡ Some b → a ≡ b
-    some f = cc
-
     inside : (total a : ℕ) → nat_le 0x8000_0000 a ≡ true → nat_lt a (0x8000_0000 + 4096 * total) ≡ true → (a - 0x8000_0000) / 4096 < total
     inside total a h k = grind (arith, nat_tests)
 
-    left : (a b : Bool) → (a && b) ≡ true → a ≡ true
-    left true b h = refl
-    left false b h = absurd (cc)
-
-    right : (a b : Bool) → (a && b) ≡ true → b ≡ true
-    right true b h = h
-    right false b h = absurd (cc)
-
     by : (b : Bool) → is_in_dram shape address ≡ b → cond b (Some ((address - 0x8000_0000) / 4096)) None ≡ Some page → page < page_total shape
-    by true f g = subst (λ p. p < page_total shape) (some g) (inside (page_total shape) address (left _ _ f) (right _ _ f))
+    by true f g = subst (λ p. p < page_total shape) (some_same g) (inside (page_total shape) address (and_left _ _ f) (and_right _ _ f))
     by false f g = absurd (cc)
 
 frame_page : (shape : Shape) (frame page : ℕ) → page_of_frame shape frame ≡ Some page → page < page_total shape
 frame_page shape frame page e = by (is_dram_frame shape frame) refl e
   where
-    some : {a b : ℕ} → Some a ≡ Some b → a ≡ b
-    some f = cc
-
-    left : (a b : Bool) → (a && b) ≡ true → a ≡ true
-    left true b h = refl
-    left false b h = absurd (cc)
-
-    right : (a b : Bool) → (a && b) ≡ true → b ≡ true
-    right true b h = h
-    right false b h = absurd (cc)
-
     inside : (total f : ℕ) → nat_le 0x80000 f ≡ true → nat_lt f (0x80000 + total) ≡ true → f - 0x80000 < total
     inside total f h k = grind (arith, nat_tests)
 
     by : (b : Bool) → is_dram_frame shape frame ≡ b → cond b (Some (frame - 0x80000)) None ≡ Some page → page < page_total shape
-    by true f g = subst (λ p. p < page_total shape) (some g) (inside (page_total shape) frame (left _ _ f) (right _ _ f))
+    by true f g = subst (λ p. p < page_total shape) (some_same g) (inside (page_total shape) frame (and_left _ _ f) (and_right _ _ f))
     by false f g = absurd (cc)
 
 region_low : (shape : Shape) (page : ℕ) → is_shape shape ≡ true → region_of_page shape page < shape.regions
@@ -298,9 +275,6 @@ module _ (shape : Shape) (is : is_shape shape ≡ true) (core calls : ℕ) where
     pub all_accessed : (ms : Moves) (c : Core) → Agrees shape core calls ms c → IsPermitted shape core ms (accessed shape va access c next)
     all_accessed ms c a = all_or_translated (page_for c.cache (vpn_of va) access) ms c (λ page e. in_cache (find (serves (vpn_of va) access) c.cache) refl page e) a
       where
-        some : {a b : ℕ} → Some a ≡ Some b → a ≡ b
-        some f = cc
-
         in_cache : (o : Option Entry) → find (serves (vpn_of va) access) c.cache ≡ o → (page : ℕ) → option_map (λ (e : Entry). e.page) o ≡ Some page → IsCached shape core ms page
         in_cache None f page e = absurd (cc)
-        in_cache (Some x) f page e = subst (IsCached shape core ms) (some e) (all_found (λ y. IsCached shape core ms y.page) (serves (vpn_of va) access) c.cache x a.cached f)
+        in_cache (Some x) f page e = subst (IsCached shape core ms) (some_same e) (all_found (λ y. IsCached shape core ms y.page) (serves (vpn_of va) access) c.cache x a.cached f)

@@ -1,5 +1,5 @@
 -- The laws of what cores do by their lines, and of finished runs. This project's own.
-use Rattle.std.specs.Prelude.{◌≡◌, ℕ, ◌<◌, List, [], Some, None}
+use Rattle.std.specs.Prelude.{◌≡◌, ℕ, ◌<◌, List, [], Option, Some, None}
 use Rattle.std.specs.List.{AllByRecursion}
 use Rattle.mon_types.specs.declared.image.Image.{Image}
 use Rattle.mon_types.specs.declared.script.Line.{Line}
@@ -12,8 +12,18 @@ use Rattle.protocol.specs.Runs.{Made, moves_of, memory_after, IsRun}
 use Rattle.core_behaviour.specs.Course.{first_of, left_of, IsBegun}
 use Rattle.core_behaviour.specs.Runs.{course_of, start_words, run_by, IsFinishedBy}
 use Rattle.core_behaviour.specs.RunLaw.{AreGiven}
+use Rattle.image_read.specs.Grammar.{IsImageText}
+use Rattle.script_read.specs.Grammar.{IsScript}
 use Rattle.core_laws.specs.Outcomes.{IsWord, AreAnswered}
 use Rattle.core_laws.specs.Given.{IsMachine, AreWide}
+
+-- an image that is read from bytes is one of a machine within the limits, with words of 64 bits
+abbrev pub ImagesAreMachines : Type 0
+ImagesAreMachines = (bytes : List ℕ) (image : Image) → IsImageText bytes image → IsMachine image
+
+-- a script that is read has numbers of 64 bits
+abbrev pub ScriptsAreWide : Type 0
+ScriptsAreWide = (cores : Option ℕ) (bytes : List ℕ) (script : List (List Line)) → IsScript cores bytes script → AreWide script
 
 -- an image and a script of which these laws speak
 pub record IsSaid (image : Image) (script : List (List Line)) : Type 0 where

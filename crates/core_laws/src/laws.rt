@@ -2,7 +2,13 @@
 
 ghost use Rattle.hist.specs.Legal.{HasLastTables};
 ghost use Rattle.core_laws.specs.Finished.{IsLegal, IsBusy, IsSafe, HasZeros, HasLoadedPages, HasReadPages, IsOneHistory};
-ghost use Rattle.core_laws.specs.Laws.{NextIsPermitted, EndIsAtRest, GivenIsRun, WordsStayWords, GivenAreAnswered, SchedulesAreGiven, SchedulesAreOfLines, EverySchedule};
+ghost use Rattle.core_laws.specs.Laws.{ImagesAreMachines, ScriptsAreWide, NextIsPermitted, EndIsAtRest, GivenIsRun, WordsStayWords, GivenAreAnswered, SchedulesAreGiven, SchedulesAreOfLines, EverySchedule};
+
+/// Images and scripts that are read are those of which the laws speak.
+pub fn inputs_are_said()
+    ensures images { ImagesAreMachines }
+    ensures scripts { ScriptsAreWide }
+{}
 
 /// Wherever a core has begun its lines, with whatever outcomes its moves may have, what it does next is permitted, and
 /// at its end no call is under way.
