@@ -4,3 +4,8 @@ pub mod Collision
 pub mod Parts
 pub mod Race
 pub mod Alone
+pub mod Shown
+pub mod Guests
+pub mod Limits
+pub mod Looks
+pub mod Entering

@@ -14,7 +14,8 @@ use Rattle.protocol.specs.declared.action.Move.{Move}
 use Rattle.protocol.specs.declared.action.Outcome.TheVariants as outcomes
 use Rattle.protocol.specs.Views.{Moves, entry_of}
 use Rattle.core_behaviour.specs.Course.{Course, first_of, left_of}
-use Rattle.core_behaviour.specs.Core.{Core, Exit, core_start}
+use Rattle.core_behaviour.specs.declared.exit.Exit.{Exit}
+use Rattle.core_behaviour.specs.Core.{Core, core_start}
 use Rattle.core_behaviour.specs.Lines.{lines_from}
 use Rattle.core_behaviour_runs.specs.Machines.{small, in_call_with, draft, t0}
 
