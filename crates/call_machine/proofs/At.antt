@@ -42,6 +42,8 @@ module _ (w : Work) where
     end = refl;
     config = refl;
     call = refl;
+    core = refl;
+    mode = refl;
   }
 
 -- ---- the same facts of a call that keeps something else elsewhere
@@ -111,8 +113,8 @@ decided_other w input page p d = record {
 
 -- what stands after a later step of one that left the machine and the call as they were
 pub at_from : (old mid new : Work) (end ends : Option (Reply × After)) (tree goal : Tree) (most limit : ℕ) → IsAt mid new end tree most
-    → tree ≡ goal → most ≤ limit → end ≡ ends → mid.config ≡ old.config → mid.call ≡ old.call → IsAt old new ends goal limit
-at_from old mid new end ends tree goal most limit h t l e config call = record {
+    → tree ≡ goal → most ≤ limit → end ≡ ends → mid.config ≡ old.config → mid.call ≡ old.call → mid.core ≡ old.core → mid.mode ≡ old.mode → IsAt old new ends goal limit
+at_from old mid new end ends tree goal most limit h t l e config call core mode = record {
   based = h.based;
   stands = h.stands;
   meaning = h.meaning ∙ t;
@@ -120,6 +122,8 @@ at_from old mid new end ends tree goal most limit h t l e config call = record {
   end = h.end ∙ e;
   config = h.config ∙ config;
   call = h.call ∙ call;
+  core = h.core ∙ core;
+  mode = h.mode ∙ mode;
 }
 
 pub objects_many : (w : Work) → length (objects_in w) ≡ length w.locks.items

@@ -152,7 +152,7 @@ module _ (w : Work) (o : ObjectId) (r : IsRowRead w o) (held : Held) (locks : Ar
   row_objects : objects_in next_work ≡ objects_in w ++ o ∷ []
   row_objects = ap (map (λ l. l.object)) locks_are ∙ map-append (λ l. l.object) w.locks.items (record { object = o } ∷ [])
 
-  row_found : found next_work ≡ (o, row_part w) ∷ found w
+  pub row_found : found next_work ≡ (o, row_part w) ∷ found w
   row_found =
       ap (λ os. found_with os w.stood.items []) row_objects
       ∙ found_last (objects_in w) o w.stood.items []

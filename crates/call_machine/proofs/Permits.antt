@@ -1,10 +1,9 @@
 -- What a core has left of its call under way: the first move is permitted.
-use Rattle.std.proofs.Common.{◌≡◌, ℕ, List, sym, subst}
+use Rattle.std.proofs.Common.{ℕ, sym, subst}
 use Rattle.mon_types.specs.Shape.{Shape}
 use Rattle.mon_types.specs.declared.call.Call.{Call}
 use Rattle.mon_records.specs.Ranges.{IsCall}
 use Rattle.protocol.specs.declared.action.Action.{Action}
-use Rattle.protocol.specs.declared.action.Outcome.{Outcome}
 use Rattle.protocol.specs.CallTree.{Tree, Over, Makes, call_tree}
 use Rattle.protocol.specs.Views.{Moves, next_serial, call_moves, issuer_of}
 use Rattle.protocol.specs.Permitted.{Follows, HasSerial, MayGoOn}

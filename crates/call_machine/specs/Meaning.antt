@@ -1,5 +1,5 @@
 -- What a call has still to do, as a tree of moves, by all that it keeps. This project's own.
-use Rattle.std.specs.Prelude.{◌≡◌, ℕ, ◌+◌, ◌-◌, List, [], ◌∷◌, ◌++◌, length, map, take, drop, Option, Some, if◌then◌else◌}
+use Rattle.std.specs.Prelude.{◌≡◌, ℕ, ◌+◌, ◌-◌, ⊤, List, [], ◌∷◌, ◌++◌, length, map, take, drop, Option, Some, if◌then◌else◌}
 use Rattle.mon_types.specs.Shape.{Shape}
 use Rattle.mon_types.specs.Objects.{width}
 use Rattle.mon_types.specs.Replies.{is_done}
@@ -31,6 +31,7 @@ use Rattle.protocol.specs.Moves.{action_outcome}
 use Rattle.protocol.specs.CallTree.{Tree, Over, Makes, Issuer, number_in, then_, zeros, words_freed, reads, copy_words, page_read, put_pte, walk, loaded, lock, lock_all, lock_plan, plan_of, decided, call_tree}
 use Rattle.protocol.specs.Views.{Moves, call_moves, issuer_of}
 use Rattle.protocol.specs.Permitted.{Follows}
+use Rattle.core_behaviour.specs.Called.{found_by}
 use Rattle.call_machine.specs.declared.phase.Phase.{Phase}
 use Rattle.call_machine.specs.declared.phase.Phase.TheVariants as phases
 use Rattle.call_machine.specs.declared.work.Work.{Work}
@@ -168,6 +169,40 @@ LedTo w core ms = Follows (call_tree w.config (issuer_of core ms) w.call) (call_
 abbrev pub after : Tree → Outcome → Tree
 after Over outcome = Over
 after (Makes action next) outcome = next outcome
+
+-- ---- what it finds
+
+-- what it has found so far in a phase, with the words of a row that is being read
+abbrev pub phase_found : Work → Phase → Found
+phase_found w (phases.Reads o at) = (o, row_part w) ∷ found w
+phase_found w _ = found w
+
+-- what it has found so far
+abbrev pub so_far : Work → Found
+so_far w = phase_found w w.phase
+
+-- what is found with the outcome of the move of this phase; not said where own-words were written, nor from the Draw on
+abbrev pub PhaseFinds : Work → Phase → Outcome → Found → Type 0
+PhaseFinds w (phases.Tries o) outcome now = now ≡ found_by (actions.TryLock o) outcome (found w)
+PhaseFinds w (phases.Reads o at) outcome now =
+    now ≡ found_by (actions.Read o at) outcome ((o, row_part w) ∷ found w)
+PhaseFinds w (phases.Walks page level left) outcome now = now ≡ found w
+PhaseFinds w (phases.Loads at) outcome now = now ≡ found w
+PhaseFinds w (phases.Stores at word) outcome now = now ≡ found w
+PhaseFinds w (phases.Puts place) outcome now = now ≡ found w
+PhaseFinds w _ outcome now = ⊤
+
+-- What is found with the outcome of the first move of the tree, where this was found before, in these whole rows. At a
+-- Draw it is all in whole rows. Not said of a Write, nor of the moves behind the Draw.
+unfoldable pub IsFoundBy : Tree → Outcome → Found → Found → Found → Type 0
+IsFoundBy Over outcome before rows now = ⊤
+IsFoundBy (Makes (actions.TryLock o) next) outcome before rows now = now ≡ found_by (actions.TryLock o) outcome before
+IsFoundBy (Makes (actions.Read o i) next) outcome before rows now = now ≡ found_by (actions.Read o i) outcome before
+IsFoundBy (Makes (actions.Write o i word) next) outcome before rows now = ⊤
+IsFoundBy (Makes (actions.Draw draft) next) outcome before rows now = rows ≡ before
+IsFoundBy (Makes (actions.Unlock o) next) outcome before rows now = ⊤
+IsFoundBy (Makes (actions.Load i) next) outcome before rows now = now ≡ before
+IsFoundBy (Makes (actions.Store i word) next) outcome before rows now = now ≡ before
 
 -- ---- the end
 

@@ -166,6 +166,8 @@ pub record IsAt (old w : Work) (ends : Option (Reply × After)) (tree : Tree) (m
   pub end : w.ends ≡ ends
   pub config : w.config ≡ old.config
   pub call : w.call ≡ old.call
+  pub core : w.core ≡ old.core
+  pub mode : w.mode ≡ old.mode
 
 -- it has taken the outcome of its move in this phase
 abbrev pub HasTaken : Work → Work → Phase → Outcome → Type 0

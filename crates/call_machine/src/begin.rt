@@ -1,10 +1,10 @@
 //! The begin of a call.
 
-ghost use Rattle.std.specs.Prelude.{◌≡◌, ◌+◌, ◌<◌, ◌^◌, length};
+ghost use Rattle.std.specs.Prelude.{◌≡◌, [], ◌+◌, ◌<◌, ◌^◌, length};
 ghost use Rattle.std.specs.List.{AllByRecursion};
 ghost use Rattle.protocol.specs.CallTree.{call_tree};
 ghost use Rattle.mon_types.specs.Sizes.{page_words};
-ghost use Rattle.call_machine.specs.Meaning.{issuer};
+ghost use Rattle.call_machine.specs.Meaning.{issuer, so_far};
 ghost use Rattle.call_machine.specs.Count.{most_locks, most_words, most_decided};
 ghost use Rattle.call_machine.specs.Stands.{IsFresh, IsAt};
 ghost use Rattle.mon_records.specs.Ranges.{IsCall};
@@ -21,8 +21,8 @@ fn word(word: u64) -> u64
     word
 }
 
-/// Each of these numbers is a word.
-fn words(words: &[u64])
+/// Each of these numbers has 64 bits, as those of its type have: for laws that ask it.
+pub fn words(words: &[u64])
     ensures { AllByRecursion (λ w. w < 2 ^ 64) words.now }
 {
     let mut at = 0;
@@ -40,8 +40,8 @@ fn array_words<const N: usize>(array: &[u64; N])
     words(array);
 }
 
-/// The numbers of a call are words, and it has all of them.
-pub(crate) fn has_words(call: &Call)
+/// The numbers of a call have 64 bits, and it has all of them: for laws that ask it.
+pub fn has_words(call: &Call)
     ensures { IsCall call.now }
 {
     match *call {
@@ -92,7 +92,8 @@ impl Work {
     /// The first move: a refusal's Draw, or the first lock, or the Draw of a call that tries no object.
     pub(crate) fn start(&mut self)
         requires { IsFresh self.old }
-        ensures { IsAt self.old self.new self.old.ends (call_tree self.old.config (issuer self.old) self.old.call) (most_locks self.old.call + most_words self.old.call + most_decided self.old.config self.old.call) }
+        ensures at { IsAt self.old self.new self.old.ends (call_tree self.old.config (issuer self.old) self.old.call) (most_locks self.old.call + most_words self.old.call + most_decided self.old.config self.old.call) }
+        ensures found { so_far self.new ≡ [] }
     {
         match refuse_early(&self.config, self.mode, &self.call) {
             Some(reply) => {

@@ -6,7 +6,7 @@ ghost use Rattle.mon_types.specs.declared.region.Region.TheVariants as regions;
 ghost use Rattle.mon_model.specs.State.{enclave_at};
 ghost use Rattle.mon_enclaves.specs.LoadReply.{is_load, slot_of, va_of, path_length};
 ghost use Rattle.protocol.specs.CallTree.{Tree, decided, loaded, walk_below, put_pte};
-ghost use Rattle.call_machine.specs.Meaning.{issuer, found, known, ptes_in, objects_in, draws};
+ghost use Rattle.call_machine.specs.Meaning.{so_far, issuer, found, known, ptes_in, objects_in, draws};
 ghost use Rattle.call_machine.specs.Rest.{early_own, early_rest};
 ghost use Rattle.call_machine.specs.Count.{most_decided, most_early, most_copied, most_drawn};
 ghost use Rattle.call_machine.specs.Stands.{IsLocked, IsWalking, IsDecided, IsAt, HasTaken, phase_stands};
@@ -27,7 +27,8 @@ impl Work {
         requires ptes { self.old.ptes.items ≡ [] }
         requires places { self.old.places.items ≡ [] }
         requires page { self.old.page.items ≡ [] }
-        ensures { IsAt self.old self.new self.old.ends (decided self.old.config (issuer self.old) self.old.call (found self.old)) (most_decided self.old.config self.old.call) }
+        ensures at { IsAt self.old self.new self.old.ends (decided self.old.config (issuer self.old) self.old.call (found self.old)) (most_decided self.old.config self.old.call) }
+        ensures found { so_far self.new ≡ found self.old }
     {
         self.reply = decide(
             &self.config,
@@ -53,7 +54,8 @@ impl Work {
         requires ptes { self.old.ptes.items ≡ [] }
         requires places { self.old.places.items ≡ [] }
         requires page { self.old.page.items ≡ [] }
-        ensures { IsAt self.old self.new self.old.ends (walk_below self.old.config (va_of self.old.call) (path_length self.old.call) (enclave_at (known self.old) (slot_of self.old.call)).root (loaded (issuer self.old) self.old.call (known self.old) (found self.old))) (most_decided self.old.config self.old.call) }
+        ensures at { IsAt self.old self.new self.old.ends (walk_below self.old.config (va_of self.old.call) (path_length self.old.call) (enclave_at (known self.old) (slot_of self.old.call)).root (loaded (issuer self.old) self.old.call (known self.old) (found self.old))) (most_decided self.old.config self.old.call) }
+        ensures found { so_far self.new ≡ found self.old }
     {
         let left = path_length(&self.call);
         if left == 0 {
@@ -66,7 +68,8 @@ impl Work {
     /// It loads so many ptes at most, from the root of its enclave down.
     fn walk_root(&mut self, left: u8)
         requires { IsWalking self.old 2 left }
-        ensures { IsAt self.old self.new self.old.ends (walk_below self.old.config (va_of self.old.call) left (enclave_at (known self.old) (slot_of self.old.call)).root (λ rest. loaded (issuer self.old) self.old.call (known self.old) (found self.old) (ptes_in self.old ++ rest))) (left + most_copied self.old.call + 1 + most_drawn self.old.config self.old.call) }
+        ensures at { IsAt self.old self.new self.old.ends (walk_below self.old.config (va_of self.old.call) left (enclave_at (known self.old) (slot_of self.old.call)).root (λ rest. loaded (issuer self.old) self.old.call (known self.old) (found self.old) (ptes_in self.old ++ rest))) (left + most_copied self.old.call + 1 + most_drawn self.old.config self.old.call) }
+        ensures found { so_far self.new ≡ found self.old }
     {
         match self.held.first_enclave().root {
             Some(page) => {
@@ -97,7 +100,8 @@ impl Work {
         requires decided { IsDecided self.old }
         requires input { self.old.input ≡ None }
         requires from { from ≤ length self.old.held.regions.items }
-        ensures { IsAt self.old self.new self.old.ends (early_rest self.old.call (objects_in self.old) (drop from self.old.held.regions.items) self.old.stood.items (draws self.old None)) ((most_early self.old.call - from) + most_drawn self.old.config self.old.call) }
+        ensures at { IsAt self.old self.new self.old.ends (early_rest self.old.call (objects_in self.old) (drop from self.old.held.regions.items) self.old.stood.items (draws self.old None)) ((most_early self.old.call - from) + most_drawn self.old.config self.old.call) }
+        ensures found { so_far self.new ≡ found self.old }
     {
         let at = self.early_from(from);
         if at < self.held.regions.len() {

@@ -28,4 +28,5 @@ mod tests;
 mod work;
 mod zeros;
 
+pub use begin::{has_words, words};
 pub use machine::CallMachine;

@@ -7,7 +7,7 @@ ghost use Rattle.mon_enclaves.specs.LoadReply.{is_load, va_of};
 ghost use Rattle.mon_model.specs.InRange.{IsInRange};
 ghost use Rattle.loaded_pages.specs.Content.{loaded_pte};
 ghost use Rattle.protocol.specs.CallTree.{loaded, put_pte, walk, go_on};
-ghost use Rattle.call_machine.specs.Meaning.{issuer, found, known, ptes_in, draws, copied};
+ghost use Rattle.call_machine.specs.Meaning.{so_far, issuer, found, known, ptes_in, draws, copied};
 ghost use Rattle.call_machine.specs.Count.{most_drawn, most_copied};
 ghost use Rattle.call_machine.specs.Stands.{IsLocked, IsWalking, IsDecided, IsCopying, IsAt, HasTaken};
 
@@ -43,7 +43,8 @@ impl Work {
     /// A pte was loaded.
     pub(crate) fn pte_loaded(&mut self, page: u16, level: u8, left: u8, outcome: &Outcome)
         requires { IsWalking self.old level left }
-        ensures { HasTaken self.old self.new (Phase.Walks page level left) outcome.now }
+        ensures at { HasTaken self.old self.new (Phase.Walks page level left) outcome.now }
+        ensures found { so_far self.new ≡ found self.old }
     {
         let pte = word_of(outcome);
         self.places
@@ -59,7 +60,8 @@ impl Work {
     /// Goes on to the table to which a pte leads, which has this level; where it leads to none, the ptes decide.
     fn walk_on(&mut self, level: u8, left: u8, pte: u64)
         requires { IsWalking self.old level left }
-        ensures { IsAt self.old self.new self.old.ends (go_on (leads_to_table self.old.config pte) (walk self.old.config (va_of self.old.call) level left (page_led_to pte) (λ rest. loaded (issuer self.old) self.old.call (known self.old) (found self.old) (ptes_in self.old ++ rest))) (loaded (issuer self.old) self.old.call (known self.old) (found self.old) (ptes_in self.old))) (left + most_copied self.old.call + 1 + most_drawn self.old.config self.old.call) }
+        ensures at { IsAt self.old self.new self.old.ends (go_on (leads_to_table self.old.config pte) (walk self.old.config (va_of self.old.call) level left (page_led_to pte) (λ rest. loaded (issuer self.old) self.old.call (known self.old) (found self.old) (ptes_in self.old ++ rest))) (loaded (issuer self.old) self.old.call (known self.old) (found self.old) (ptes_in self.old))) (left + most_copied self.old.call + 1 + most_drawn self.old.config self.old.call) }
+        ensures found { so_far self.new ≡ found self.old }
     {
         match table_led_to(&self.config, pte) {
             Some(page) => self.phase = Phase::Walks { page, level, left },
@@ -73,7 +75,8 @@ impl Work {
         requires load { is_load self.old.call ≡ true }
         requires few { length self.old.ptes.items ≤ 3 }
         requires same { length self.old.places.items ≡ length self.old.ptes.items }
-        ensures { IsAt self.old self.new self.old.ends (loaded (issuer self.old) self.old.call (known self.old) (found self.old) (ptes_in self.old)) (most_copied self.old.call + 1 + most_drawn self.old.config self.old.call) }
+        ensures at { IsAt self.old self.new self.old.ends (loaded (issuer self.old) self.old.call (known self.old) (found self.old) (ptes_in self.old)) (most_copied self.old.call + 1 + most_drawn self.old.config self.old.call) }
+        ensures found { so_far self.new ≡ found self.old }
     {
         self.reply = decide(
             &self.config,
@@ -96,7 +99,8 @@ impl Work {
     pub(crate) fn word_loaded(&mut self, at: u16, outcome: &Outcome)
         requires copying { IsCopying self.old at }
         requires at { at < page_words }
-        ensures { HasTaken self.old self.new (Phase.Loads at) outcome.now }
+        ensures at { HasTaken self.old self.new (Phase.Loads at) outcome.now }
+        ensures found { so_far self.new ≡ found self.old }
     {
         let word = word_of(outcome);
         self.page.push(word);
@@ -107,7 +111,8 @@ impl Work {
     pub(crate) fn word_stored(&mut self, at: u16, word: u64, outcome: &Outcome)
         requires copying { IsCopying self.old (at + 1) }
         requires at { at < page_words }
-        ensures { HasTaken self.old self.new (Phase.Stores at word) outcome.now }
+        ensures at { HasTaken self.old self.new (Phase.Stores at word) outcome.now }
+        ensures found { so_far self.new ≡ found self.old }
     {
         if usize::from(at) + 1 < PAGE_WORDS {
             self.phase = Phase::Loads { at: at + 1 };
@@ -119,7 +124,8 @@ impl Work {
     /// The whole page was copied.
     fn page_copied(&mut self)
         requires { IsCopying self.old page_words }
-        ensures { IsAt self.old self.new self.old.ends (copied self.old self.old.page.items) (1 + most_drawn self.old.config self.old.call) }
+        ensures at { IsAt self.old self.new self.old.ends (copied self.old self.old.page.items) (1 + most_drawn self.old.config self.old.call) }
+        ensures found { so_far self.new ≡ found self.old }
     {
         self.input = Some(PageInput {
             digest: page_digest(&array_of(&self.page)),
@@ -131,7 +137,8 @@ impl Work {
     /// The pte that leads to what is loaded is stored, if it has a place; and then the Draw.
     fn put(&mut self)
         requires { IsDecided self.old }
-        ensures { IsAt self.old self.new self.old.ends (put_pte (last_place self.old.places.items) self.old.call (draws self.old self.old.input self.old.stood.items)) (1 + most_drawn self.old.config self.old.call) }
+        ensures at { IsAt self.old self.new self.old.ends (put_pte (last_place self.old.places.items) self.old.call (draws self.old self.old.input self.old.stood.items)) (1 + most_drawn self.old.config self.old.call) }
+        ensures found { so_far self.new ≡ found self.old }
     {
         match self.places.last() {
             Some(&place) => self.phase = Phase::Puts { place },
@@ -142,7 +149,8 @@ impl Work {
     /// It was stored.
     pub(crate) fn pte_put(&mut self, place: u32, outcome: &Outcome)
         requires { IsDecided self.old }
-        ensures { HasTaken self.old self.new (Phase.Puts place) outcome.now }
+        ensures at { HasTaken self.old self.new (Phase.Puts place) outcome.now }
+        ensures found { so_far self.new ≡ found self.old }
     {
         self.phase = Phase::Draws;
     }

@@ -1,13 +1,13 @@
 //! One monitor call.
 
-ghost use Rattle.std.specs.Prelude.{◌≡◌, ◌+◌, ◌≤◌, ◌<◌, ℕ, Some, None};
+ghost use Rattle.std.specs.Prelude.{◌≡◌, [], ◌+◌, ◌≤◌, ◌<◌, ℕ, Some, None};
 ghost use Rattle.mon_types.specs.Modes.{own_slot, own_thread};
 ghost use Rattle.mon_types.specs.Budgets.{answer_budget};
 ghost use Rattle.protocol.specs.declared.action.Move.TheVariants as moves;
 ghost use Rattle.protocol.specs.CallTree.{call_tree, Over};
 ghost use Rattle.protocol.specs.Views.{Moves, next_serial};
 ghost use Rattle.protocol.specs.Permitted.{HasSerial, Permitted};
-ghost use Rattle.call_machine.specs.Meaning.{tree_of, Heads, IsOutcome, LedTo, after, ends_after};
+ghost use Rattle.call_machine.specs.Meaning.{so_far, found, IsFoundBy, tree_of, Heads, IsOutcome, LedTo, after, ends_after};
 ghost use Rattle.call_machine.specs.Count.{most_moves};
 
 use crate::begin::has_words;
@@ -63,8 +63,11 @@ impl CallMachine {
         ensures tree { tree_of result.work ≡ call_tree config.now (record { core = core; serial = serial; mode = mode; answers = answers }) call }
         ensures made { result.made ≡ 0 }
         ensures ends { result.work.ends ≡ None }
+        ensures found { so_far result.work ≡ [] }
         ensures config { result.work.config ≡ config.now }
         ensures call { result.work.call ≡ call }
+        ensures core { result.work.core ≡ core }
+        ensures mode { result.work.mode ≡ mode }
     {
         let _cores = config.cores();
         has_words(&call);
@@ -109,8 +112,11 @@ impl CallMachine {
         ensures tree { tree_of self.new.work ≡ call_tree config.now (record { core = core; serial = serial; mode = mode; answers = answers }) call }
         ensures made { self.new.made ≡ 0 }
         ensures ends { self.new.work.ends ≡ None }
+        ensures found { so_far self.new.work ≡ [] }
         ensures config { self.new.work.config ≡ config.now }
         ensures call { self.new.work.call ≡ call }
+        ensures core { self.new.work.core ≡ core }
+        ensures mode { self.new.work.mode ≡ mode }
     {
         let _cores = config.cores();
         has_words(&call);
@@ -149,8 +155,11 @@ impl CallMachine {
         ensures tree { tree_of self.new.work ≡ after (tree_of self.old.work) outcome.now }
         ensures made { self.new.made ≡ self.old.made + 1 }
         ensures ends { self.new.work.ends ≡ ends_after self.old.work (tree_of self.old.work) }
+        ensures found { self.old.work.ends ≡ None → IsFoundBy (tree_of self.old.work) outcome.now (so_far self.old.work) (found self.old.work) (so_far self.new.work) }
         ensures config { self.new.work.config ≡ self.old.work.config }
         ensures call { self.new.work.call ≡ self.old.work.call }
+        ensures core { self.new.work.core ≡ self.old.work.core }
+        ensures mode { self.new.work.mode ≡ self.old.work.mode }
     {
         self.work.take(outcome);
         self.made += 1;
@@ -165,6 +174,13 @@ impl CallMachine {
             Phase::Over => self.work.ends,
             _ => None,
         }
+    }
+
+    /// The call.
+    pub fn call(&self) -> &Call
+        ensures { result.now ≡ self.now.work.call }
+    {
+        &self.work.call
     }
 
     /// How many outcomes the call took: at most 1,200, and of a free at most 200 and the words of a region.

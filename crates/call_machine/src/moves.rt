@@ -1,10 +1,10 @@
 //! The next move of a call, and what its outcome leads to.
 
-ghost use Rattle.std.specs.Prelude.{◌≡◌, ◌+◌, ◌-◌, ◌≤◌, ◌<◌, ◌∷◌, []};
+ghost use Rattle.std.specs.Prelude.{◌≡◌, ◌+◌, ◌-◌, ◌≤◌, ◌<◌, ◌∷◌, [], None};
 ghost use Rattle.mon_model.specs.InRange.{IsInRange};
 ghost use Rattle.mon_enclaves.specs.LoadReply.{source_of};
 ghost use Rattle.protocol.specs.CallTree.{Over};
-ghost use Rattle.call_machine.specs.Meaning.{Heads, IsOutcome, phase_tree, tree_of, after, ends_after, draft_with, target_of};
+ghost use Rattle.call_machine.specs.Meaning.{PhaseFinds, so_far, Heads, IsOutcome, phase_tree, tree_of, after, ends_after, draft_with, target_of};
 ghost use Rattle.call_machine.specs.Count.{left};
 ghost use Rattle.call_machine.specs.Stands.{IsBased, IsAt, phase_stands};
 
@@ -143,7 +143,8 @@ impl Work {
         requires based { IsBased self.old }
         requires stands { phase_stands self.old self.old.phase }
         requires outcome { IsOutcome (tree_of self.old) outcome.now }
-        ensures { IsAt self.old self.new (ends_after self.old (tree_of self.old)) (after (tree_of self.old) outcome.now) (left self.old - 1) }
+        ensures at { IsAt self.old self.new (ends_after self.old (tree_of self.old)) (after (tree_of self.old) outcome.now) (left self.old - 1) }
+        ensures found { self.old.ends ≡ None → PhaseFinds self.old self.old.phase outcome.now (so_far self.new) }
     {
         match self.phase {
             Phase::Tries { object } => self.lock_tried(object, outcome),

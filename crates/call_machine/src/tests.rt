@@ -139,11 +139,11 @@ fn again(machine: &mut CallMachine, call: Call) {
 
 const E3: ObjectId = ObjectId::Enclave(3);
 
-const R1: ObjectId = ObjectId::Region(1);
+const REGION_1: ObjectId = ObjectId::Region(1);
 
-const R2: ObjectId = ObjectId::Region(2);
+const REGION_2: ObjectId = ObjectId::Region(2);
 
-const R5: ObjectId = ObjectId::Region(5);
+const REGION_5: ObjectId = ObjectId::Region(5);
 
 const C0: ObjectId = ObjectId::Cell(0);
 
@@ -179,15 +179,15 @@ const BLOCK: Call = Call::Block { r: 1 };
 /// All moves of a block of region 1, which the OS has owned since ticket 7.
 fn blocks(rt: &impl Abort, machine: &mut CallMachine) {
     let tried = Tried { regions: 2, ..NONE };
-    takes(rt, machine, R1, &[1 + 64 * 7, 0]);
+    takes(rt, machine, REGION_1, &[1 + 64 * 7, 0]);
     follows(
         rt,
         machine,
         &[
-            writes(R1, 0, 2 + 64 * 7),
+            writes(REGION_1, 0, 2 + 64 * 7),
             draws(BLOCK, Reply::done(), tried),
-            writes(R1, 1, 21),
-            gives(R1),
+            writes(REGION_1, 1, 21),
+            gives(REGION_1),
         ],
     );
     ends(rt, machine, Reply::done(), After::Nothing, 7);
@@ -203,11 +203,11 @@ fn a_refusal_writes_nothing(rt: HostRuntime) {
     let tried = Tried { regions: 2, ..NONE };
     let mut machine = begun(BLOCK);
     // Free
-    takes(&rt, &mut machine, R1, &[0, 0]);
+    takes(&rt, &mut machine, REGION_1, &[0, 0]);
     follows(
         &rt,
         &mut machine,
-        &[draws(BLOCK, Reply::InvalidState, tried), gives(R1)],
+        &[draws(BLOCK, Reply::InvalidState, tried), gives(REGION_1)],
     );
     ends(&rt, &machine, Reply::InvalidState, After::Nothing, 5);
 }
@@ -244,7 +244,7 @@ fn a_flush_clears_the_translations(rt: HostRuntime) {
 fn a_lock_that_is_held_refuses_and_all_are_given_back(rt: HostRuntime) {
     let call = Call::Assign { r: 1, to: 3 };
     let reply = Reply::ConcurrentCall {
-        lock: R1,
+        lock: REGION_1,
         holder: 0,
         serial: 5,
     };
@@ -256,7 +256,7 @@ fn a_lock_that_is_held_refuses_and_all_are_given_back(rt: HostRuntime) {
     let mut machine = begun(call);
     takes(&rt, &mut machine, E3, &LOADING);
     let held = Outcome::HeldBy { core: 0, serial: 5 };
-    makes(&rt, &mut machine, &(Action::TryLock { object: R1 }, held));
+    makes(&rt, &mut machine, &(Action::TryLock { object: REGION_1 }, held));
     follows(&rt, &mut machine, &[draws(call, reply, tried), gives(E3)]);
     ends(&rt, &machine, reply, After::Nothing, 33);
 }
@@ -271,7 +271,7 @@ fn a_free_leaves_zeros_behind_its_draw(rt: HostRuntime) {
     };
     let mut machine = begun(call);
     // Blocked since ticket 0, at ticket 5; both cores have flushed
-    takes(&rt, &mut machine, R1, &[2, 5]);
+    takes(&rt, &mut machine, REGION_1, &[2, 5]);
     takes(&rt, &mut machine, C0, &[6]);
     takes(&rt, &mut machine, C1, &[7]);
     makes(&rt, &mut machine, &draws(call, Reply::done(), tried));
@@ -282,11 +282,11 @@ fn a_free_leaves_zeros_behind_its_draw(rt: HostRuntime) {
         &rt,
         &mut machine,
         &[
-            writes(R1, 0, 0),
-            writes(R1, 1, 0),
+            writes(REGION_1, 0, 0),
+            writes(REGION_1, 1, 0),
             gives(C1),
             gives(C0),
-            gives(R1),
+            gives(REGION_1),
         ],
     );
     ends(&rt, &machine, Reply::done(), After::Nothing, 525);
@@ -298,14 +298,14 @@ const DELETE: Call = Call::Delete { e: 3 };
 fn withdraws_two(rt: &impl Abort, machine: &mut CallMachine) {
     takes(rt, machine, E3, &UNUSED);
     // Its own since tickets 7 and 8
-    takes(rt, machine, R1, &[1 + 4 * 4 + 64 * 7, 0]);
-    takes(rt, machine, R2, &[1 + 4 * 4 + 64 * 8, 0]);
+    takes(rt, machine, REGION_1, &[1 + 4 * 4 + 64 * 7, 0]);
+    takes(rt, machine, REGION_2, &[1 + 4 * 4 + 64 * 8, 0]);
     follows(
         rt,
         machine,
         &[
-            writes(R1, 0, 2 + 4 * 4 + 64 * 7),
-            writes(R2, 0, 2 + 4 * 4 + 64 * 8),
+            writes(REGION_1, 0, 2 + 4 * 4 + 64 * 7),
+            writes(REGION_2, 0, 2 + 4 * 4 + 64 * 8),
         ],
     );
 }
@@ -327,10 +327,10 @@ fn a_delete_withdraws_each_region_and_empties_the_slot(rt: HostRuntime) {
         &rt,
         &mut machine,
         &[
-            writes(R1, 1, 21),
-            writes(R2, 1, 21),
-            gives(R2),
-            gives(R1),
+            writes(REGION_1, 1, 21),
+            writes(REGION_2, 1, 21),
+            gives(REGION_2),
+            gives(REGION_1),
             gives(E3),
         ],
     );
@@ -393,7 +393,7 @@ const WORDS_READ: PageInput = PageInput {
 /// The moves of a load_page from page 5 of the OS to page 4, up to the Draw: word i of page 5 is i.
 fn copies(rt: &impl Abort, machine: &mut CallMachine) {
     takes(rt, machine, E3, &LOADING);
-    takes(rt, machine, R5, &[1, 0]);
+    takes(rt, machine, REGION_5, &[1, 0]);
     follows(
         rt,
         machine,
@@ -429,7 +429,7 @@ fn loads_page(rt: &impl Abort, machine: &mut CallMachine) {
             writes(E3, 8, 6672594148656810045),
             writes(E3, 9, 4256561784937005699),
             writes(E3, 10, 8530367755808507489),
-            gives(R5),
+            gives(REGION_5),
             gives(E3),
         ],
     );

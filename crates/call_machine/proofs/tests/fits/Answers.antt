@@ -1,6 +1,5 @@
 use Rattle.std.proofs.Common.{◌≡◌, ◌∙◌, ◌+◌, ◌*◌, ◌/◌, ◌%◌, ◌-◌, ◌<◌, ℕ, suc, ap, sym, arith}
 use Rattle.std.proofs.lemmas.Bool.{ltb-true}
-use Rattle.protocol.specs.declared.action.Outcome.{Outcome}
 use Rattle.protocol.specs.declared.action.Outcome.TheVariants as outcomes
 use Rattle.protocol.specs.Moves.{action_outcome, try_outcome}
 use Rattle.call_machine.proofs.tests.fits.Goals as goal

@@ -13,9 +13,9 @@ use Rattle.call_machine.proofs.Decisions.{records_ok, records_refused, loads_ok,
 use Rattle.call_machine.proofs.Loads.{load_reply, record_reply}
 use Rattle.call_machine.proofs.work.Work.decide.Goals as goal
 
-pub returns-then-not-is_ok : goal.returns-then-not-is_ok
+pub returns-then-not-is_ok-clause-at : goal.returns-then-not-is_ok-clause-at
 unfolding phase_tree phase_stands phase_left
-returns-then-not-is_ok c =
+returns-then-not-is_ok-clause-at c =
     let w = c.args.self.now in
     let r = c.decide-self.result in
     let b = c.requires.locked.locking.holding.based in
@@ -33,24 +33,26 @@ returns-then-not-is_ok c =
       end = refl;
       config = refl;
       call = refl;
+      core = refl;
+      mode = refl;
     }
 
-pub returns-then-is_load : goal.returns-then-is_load
-returns-then-is_load c =
+pub returns-then-is_load-clause-at : goal.returns-then-is_load-clause-at
+returns-then-is_load-clause-at c =
     let w = c.args.self.now in
     let r = c.decide-self.result in
     let load = sym c.is_load.ensures ∙ c.if-is_load.true in
     let locked : IsLocked (record w { reply = r }) = record { locking = locking_other w w.tried r w.phase [] 0 c.requires.locked.locking; tried = c.requires.locked.tried } in
-    at_from _ _ _ _ _ _ _ _ _ c.walk.ensures
+    at_from _ _ _ _ _ _ _ _ _ c.walk.ensures.at
     (sym (loads_ok (record w { reply = r }) locked load (load_reply w c.requires.locked r [] load c.decide-self.ensures.by_records) (sym c.if-not-is_ok.ensures)))
-    (omega arith) refl refl refl
+    (omega arith) refl refl refl refl refl
 
-pub returns-else-is_load : goal.returns-else-is_load
-returns-else-is_load c =
+pub returns-else-is_load-clause-at : goal.returns-else-is_load-clause-at
+returns-else-is_load-clause-at c =
     let w = c.args.self.now in
     let r = c.decide-self.result in
     let no_load = sym c.is_load.ensures ∙ c.if-is_load.false in
     let locked : IsLocked (record w { reply = r }) = record { locking = locking_other w w.tried r w.phase [] 0 c.requires.locked.locking; tried = c.requires.locked.tried } in
-    at_from _ _ _ _ _ _ _ _ _ c.withdraw.ensures
+    at_from _ _ _ _ _ _ _ _ _ c.withdraw.ensures.at
     (sym (records_ok (record w { reply = r }) locked no_load (record_reply w c.requires.locked r [] no_load c.decide-self.ensures.in_states) (sym c.if-not-is_ok.ensures)))
-    (omega arith) refl refl refl
+    (omega arith) refl refl refl refl refl

@@ -15,9 +15,9 @@ use Rattle.call_machine.proofs.Decisions.{places_with, ptes_with, with_long, pte
 use Rattle.call_machine.proofs.Loads.{load_reply, other_page}
 use Rattle.call_machine.proofs.work.Work.decide_by_ptes.Goals as goal
 
-pub returns-then-not-is_ok : goal.returns-then-not-is_ok
+pub returns-then-not-is_ok-clause-at : goal.returns-then-not-is_ok-clause-at
 unfolding phase_tree phase_stands phase_left
-returns-then-not-is_ok c =
+returns-then-not-is_ok-clause-at c =
     let w = c.args.self.now in
     let r = c.decide-self.result in
     let b = c.requires.locked.locking.holding.based in
@@ -32,11 +32,13 @@ returns-then-not-is_ok c =
       end = refl;
       config = refl;
       call = refl;
+      core = refl;
+      mode = refl;
     }
 
-pub returns-in-LoadPage : goal.returns-in-LoadPage
+pub returns-in-LoadPage-clause-at : goal.returns-in-LoadPage-clause-at
 unfolding phase_tree phase_stands phase_left
-returns-in-LoadPage c =
+returns-in-LoadPage-clause-at c =
     let w = c.args.self.now in
     let r = c.decide-self.result in
     let b = c.requires.locked.locking.holding.based in
@@ -62,6 +64,8 @@ returns-in-LoadPage c =
       end = refl;
       config = refl;
       call = refl;
+      core = refl;
+      mode = refl;
     }
 
 pub put-requires : goal.put-requires
@@ -72,15 +76,15 @@ put-requires c =
     let l = locking_other w w.tried r w.phase [] 0 c.requires.locked.locking in
     record { state = known w; holding = l.holding; long = omega (arith, l.long); is_ok = is_ok; change = refl; ends = l.ends }
 
-pub returns-in_default : goal.returns-in_default
+pub returns-in_default-clause-at : goal.returns-in_default-clause-at
 unfolding draws drawn
-returns-in_default c =
+returns-in_default-clause-at c =
     let w = c.args.self.now in
     let r = c.decide-self.result in
     let is_ok : is_done r ≡ true = sym c.if-not-is_ok.ensures in
     let said = load_reply w c.requires.locked r w.ptes.items c.requires.load (c.decide-self.ensures.by_records ∙ ap (replied w.config w.mode w.call w.held) c.deref.ensures.0) ∙ ap (words_reply (known w) w.call) (sym (ptes_with w.places.items w.ptes.items c.requires.same)) in
     let locked : IsLocked (record w { reply = r }) = record { locking = locking_other w w.tried r w.phase [] 0 c.requires.locked.locking; tried = c.requires.locked.tried } in
-    at_from _ _ _ _ _ _ _ _ _ c.put.ensures
+    at_from _ _ _ _ _ _ _ _ _ c.put.ensures.at
     (ap (λ p. put_pte (last_place w.places.items) w.call (draws (record w { reply = r }) p w.stood.items)) c.requires.locked.locking.input
     ∙ sym (pte_ok (record w { reply = r }) locked (ptes_in w) said is_ok (other_page w.call c.in_default.not-LoadPage) (places_with w.places.items w.ptes.items c.requires.same)))
-    (omega arith) refl refl refl
+    (omega arith) refl refl refl refl refl

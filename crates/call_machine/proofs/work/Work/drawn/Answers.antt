@@ -88,7 +88,7 @@ returns-in-Free c =
     at_from _ _ _ _ _ _ _ _ _ c.zero.ensures
     (ap (λ l. zeros l (next c.put_rows.new.words.items)) (sym freed_is) ∙ ap (λ x. zeros (words_freed w.config (freed w.reply w.call)) (next x)) rows)
     (omega (arith, region_many w.config (freed_by w.call) d.holding.based.valid, ap (most_zeros w.config) c.in-Free.is, (holds_few w d.state d.holding).locks, (holds_few w d.state d.holding).words, d.long))
-    (ends_is w c.core_change.result d.state d.holding d.is_ok d.change c.core_change.ensures.in_states) refl refl
+    (ends_is w c.core_change.result d.state d.holding d.is_ok d.change c.core_change.ensures.in_states) refl refl refl refl
 
 pub returns-in_default : goal.returns-in_default
 unfolding phase_tree phase_left draws drawn ends_after zeros freed
@@ -102,4 +102,4 @@ returns-in_default c =
     at_from _ _ _ _ _ _ _ _ _ c.write.ensures
     (ap next rows ∙ ap (λ l. zeros l (next (held_rows (left_by w.mode w.call (digest_of w.input) (number_in c.args.outcome.now) w.held)))) (sym none))
     (omega (arith, (holds_few w d.state d.holding).locks, (holds_few w d.state d.holding).words, d.long))
-    (ends_is w c.core_change.result d.state d.holding d.is_ok d.change c.core_change.ensures.in_states) refl refl
+    (ends_is w c.core_change.result d.state d.holding d.is_ok d.change c.core_change.ensures.in_states) refl refl refl refl

@@ -20,9 +20,9 @@ decide-requires-clause-locked c =
     let h = c.requires.locking.holding in
     end_locked w c.requires (sym c.in-None.is ∙ c.next.ensures.next (known w) (objects_in w) c.requires.others h.machine h.mode h.front)
 
-pub returns-in-Some : goal.returns-in-Some
+pub returns-in-Some-clause-at : goal.returns-in-Some-clause-at
 unfolding phase_stands phase_tree phase_left
-returns-in-Some c =
+returns-in-Some-clause-at c =
     let w = c.args.self.now in
     let h = c.requires.locking.holding in
     let o = c.in-Some.object in
@@ -42,15 +42,17 @@ returns-in-Some c =
       end = refl;
       config = refl;
       call = refl;
+      core = refl;
+      mode = refl;
     }
 
-pub returns-in-None : goal.returns-in-None
-returns-in-None c =
+pub returns-in-None-clause-at : goal.returns-in-None-clause-at
+returns-in-None-clause-at c =
     let w = c.args.self.now in
     let h = c.requires.locking.holding in
-    at_from _ _ _ _ _ _ _ _ _ c.decide.ensures
+    at_from _ _ _ _ _ _ _ _ _ c.decide.ensures.at
     (sym (end_tree w c.requires (sym c.in-None.is ∙ c.next.ensures.next (known w) (objects_in w) c.requires.others h.machine h.mode h.front)))
-    (omega arith) refl refl refl
+    (omega arith) refl refl refl refl refl
 
 pub decide-requires-clause-ptes : goal.decide-requires-clause-ptes
 decide-requires-clause-ptes c = c.requires.unloaded.ptes

@@ -7,6 +7,7 @@ use Rattle.protocol.specs.declared.action.Outcome.TheVariants as outcomes
 use Rattle.protocol.specs.Moves.{action_outcome, try_outcome}
 use Rattle.protocol.specs.CallTree.{lock, after_try, meets, then_, reads, onto, unlocks}
 use Rattle.mon_records.specs.Rows.{objects_of}
+use Rattle.core_behaviour.specs.Called.{found_by}
 use Rattle.call_machine.specs.declared.phase.Phase.TheVariants as phases
 use Rattle.call_machine.specs.Meaning.{phase_tree, refuses, goes_on, issuer, objects_in, found, row_part, after, ends_after}
 use Rattle.call_machine.specs.Rest.{unlocks_of}
@@ -29,9 +30,9 @@ unreachable-requires c = elim (tried_outcome c.requires.outcome.0) [
   | inr e ↦ c.in_default.not-HeldBy e.0 e.1.0 (c.requires.outcome.1 ∙ e.1.1)
 ]
 
-pub returns-in-Taken : goal.returns-in-Taken
+pub returns-in-Taken-clause-at : goal.returns-in-Taken-clause-at
 unfolding phase_tree phase_stands phase_left lock after_try ends_after
-returns-in-Taken c =
+returns-in-Taken-clause-at c =
     let w = c.args.self.now in
     let t = c.requires.trying in
     let o = c.args.object in
@@ -48,11 +49,13 @@ returns-in-Taken c =
       end = refl;
       config = refl;
       call = refl;
+      core = refl;
+      mode = refl;
     }
 
-pub returns-in-HeldBy : goal.returns-in-HeldBy
+pub returns-in-HeldBy-clause-at : goal.returns-in-HeldBy-clause-at
 unfolding phase_tree phase_stands phase_left lock after_try meets refuses ends_after onto objects_of
-returns-in-HeldBy c =
+returns-in-HeldBy-clause-at c =
     let w = c.args.self.now in
     let t = c.requires.trying in
     let o = c.args.object in
@@ -72,4 +75,16 @@ returns-in-HeldBy c =
       end = refl;
       config = refl;
       call = refl;
+      core = refl;
+      mode = refl;
     }
+
+pub returns-in-Taken-clause-found : goal.returns-in-Taken-clause-found
+returns-in-Taken-clause-found c =
+    let w = c.args.self.now in
+    let o = c.args.object in
+    let none : row_part w ≡ [] = drop_of_length-le w.stood.items (omega (arith, c.requires.trying.locking.long)) in
+    ap (λ p. (o, p) ∷ found w) none ∙ sym (ap (λ x. found_by (actions.TryLock o) x (found w)) c.in-Taken.is)
+
+pub returns-in-HeldBy-clause-found : goal.returns-in-HeldBy-clause-found
+returns-in-HeldBy-clause-found c = sym (ap (λ x. found_by (actions.TryLock c.args.object) x (found c.args.self.now)) c.in-HeldBy.is)

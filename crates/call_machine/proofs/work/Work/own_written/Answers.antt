@@ -73,9 +73,9 @@ returns c =
     ∙ ap (λ o. early_write o (objects_in w) p.0 w.stood.items next) c.own_word-r.ensures.word in
     let place : c.row_start-place.result ≡ row_start (objects_in w) (objects.Region p.0) =
     c.row_start-place.ensures ∙ ap (λ l. row_start (map (λ x. x.object) l) (objects.Region c.own_word-r.result.0)) c.deref.ensures.0 ∙ ap (λ r. row_start (objects_in w) (objects.Region r)) c.own_word-r.ensures.region in
-    at_from _ _ _ _ _ _ _ _ _ c.withdraw.ensures
+    at_from _ _ _ _ _ _ _ _ _ c.withdraw.ensures.at
     (ap (λ l. early_rest w.call (objects_in w) (drop (c.from.result + 1) w.held.regions.items) l (draws w None)) (c.put_word.ensures ∙ ap (λ k. set w.stood.items k word) place)
     ∙ ap (λ n. early_rest w.call (objects_in w) (drop (n + 1) w.held.regions.items) (set w.stood.items (row_start (objects_in w) (objects.Region p.0)) word) (draws w None)) c.from.ensures
     ∙ ap (λ i. early_rest w.call (objects_in w) (drop (c.args.at + 1) w.held.regions.items) (set w.stood.items (row_start (objects_in w) (objects.Region p.0)) word) (draws w i)) (sym c.requires.stands.1)
     ∙ sym (ap (λ t. after t out) step))
-    (omega (arith, early_many w.call p.1 c.requires.stands.3, c.from.ensures, c.requires.stands.2, (holds_few w c.requires.stands.0.state c.requires.stands.0.holding).regions)) (sym (ap (ends_after w) step)) refl refl
+    (omega (arith, early_many w.call p.1 c.requires.stands.3, c.from.ensures, c.requires.stands.2, (holds_few w c.requires.stands.0.state c.requires.stands.0.holding).regions)) (sym (ap (ends_after w) step)) refl refl refl refl

@@ -6,8 +6,8 @@ use Rattle.call_machine.specs.Stands.{phase_stands}
 use Rattle.call_machine.proofs.At.{at_phase, decided_other}
 use Rattle.call_machine.proofs.work.Work.pte_put.Goals as goal
 
-pub returns : goal.returns
+pub returns-clause-at : goal.returns-clause-at
 unfolding phase_tree phase_stands phase_left draws drawn ends_after
-returns c =
+returns-clause-at c =
     let w = c.args.self.now in
     at_phase w phases.Draws _ _ c.requires.holding.based (decided_other w w.input w.page phases.Draws c.requires) refl (omega arith)

@@ -14,4 +14,4 @@ returns c =
     at_from _ _ _ _ _ _ _ _ _ c.unlock.ensures
     (ap unlocks_of (take_whole (objects_in w) _ (omega (arith, objects_many w, c.len-left.ensures.value))))
     (omega (arith, c.len-left.ensures.value))
-    (ap (λ b. Some (w.reply, cond b (ok_change (known w) w.core w.call) afters.Nothing)) (sym c.requires.refused)) refl refl
+    (ap (λ b. Some (w.reply, cond b (ok_change (known w) w.core w.call) afters.Nothing)) (sym c.requires.refused)) refl refl refl refl

@@ -4,7 +4,7 @@ use Rattle.call_machine.specs.Found.{widths, with_row}
 use Rattle.call_machine.specs.Meaning.{objects_in}
 use Rattle.call_machine.proofs.At.{at_from, take_whole}
 use Rattle.call_machine.proofs.Bounds.{room_for_locks}
-use Rattle.call_machine.proofs.Holding.{lock_room, record_room, row_between, row_tree}
+use Rattle.call_machine.proofs.Holding.{lock_room, record_room, row_between, row_found, row_tree}
 use Rattle.call_machine.proofs.work.Work.row_read.Goals as goal
 
 -- the end of a list
@@ -30,12 +30,21 @@ go_on-requires c =
     (c.take_row.ensures ∙ ap (λ ws. with_row w.config c.args.object ws w.held) (end_of c.deref.result.now w.stood.items _ _ c.deref.ensures.0 from))
     c.push.ensures.items
 
-pub returns : goal.returns
-returns c =
+pub returns-clause-at : goal.returns-clause-at
+returns-clause-at c =
     let w = c.args.self.now in
     let from : c.len.result - c.from.result ≡ widths (objects_in w) = omega (arith, c.len.ensures.value, c.from.ensures, c.width_of.ensures, c.requires.locking.long) in
-    at_from _ _ _ _ _ _ _ _ _ c.go_on.ensures
+    at_from _ _ _ _ _ _ _ _ _ c.go_on.ensures.at
     (row_tree w c.args.object c.requires c.take_row.new.held c.push.new.self
     (c.take_row.ensures ∙ ap (λ ws. with_row w.config c.args.object ws w.held) (end_of c.deref.result.now w.stood.items _ _ c.deref.ensures.0 from))
     c.push.ensures.items)
-    (omega (arith, ap (λ l. length l) c.push.ensures.items, length-append w.locks.items (record { object = c.args.object } ∷ []))) refl refl refl
+    (omega (arith, ap (λ l. length l) c.push.ensures.items, length-append w.locks.items (record { object = c.args.object } ∷ []))) refl refl refl refl refl
+
+pub returns-clause-found : goal.returns-clause-found
+returns-clause-found c =
+    let w = c.args.self.now in
+    let from : c.len.result - c.from.result ≡ widths (objects_in w) = omega (arith, c.len.ensures.value, c.from.ensures, c.width_of.ensures, c.requires.locking.long) in
+    c.go_on.ensures.found
+    ∙ row_found w c.args.object c.requires c.take_row.new.held c.push.new.self
+    (c.take_row.ensures ∙ ap (λ ws. with_row w.config c.args.object ws w.held) (end_of c.deref.result.now w.stood.items _ _ c.deref.ensures.0 from))
+    c.push.ensures.items

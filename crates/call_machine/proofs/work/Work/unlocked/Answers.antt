@@ -25,4 +25,4 @@ returns c =
     let w = c.args.self.now in
     let step = unlocks_step (objects_in w) c.args.left (objects.Enclave 0) c.requires.stands.0 (omega (arith, objects_many w, c.requires.stands.1)) in
     at_from _ _ _ _ _ _ _ _ _ c.unlock.ensures
-    (sym (ap (λ t. after t c.args.outcome.now) step)) (omega arith) (sym (ap (ends_after w) step)) refl refl
+    (sym (ap (λ t. after t c.args.outcome.now) step)) (omega arith) (sym (ap (ends_after w) step)) refl refl refl refl

@@ -10,9 +10,9 @@ use Rattle.call_machine.proofs.At.{at_phase, at_from, locking_other}
 use Rattle.call_machine.proofs.Heads.{led_some, led_none}
 use Rattle.call_machine.proofs.work.Work.walk_on.Goals as goal
 
-pub returns-in-Some : goal.returns-in-Some
+pub returns-in-Some-clause-at : goal.returns-in-Some-clause-at
 unfolding phase_tree phase_stands phase_left go_on
-returns-in-Some c =
+returns-in-Some-clause-at c =
     let w = c.args.self.now in
     let r = c.requires in
     let led = led_some w.config c.args.pte c.in-Some.page (sym c.table_led_to.ensures.page ∙ c.in-Some.is) in
@@ -32,11 +32,11 @@ returns-in-Some c =
     ∙ sym (ap (λ b. go_on b (walk w.config (va_of w.call) c.args.level c.args.left (page_led_to c.args.pte) (λ rest. loaded (issuer w) w.call (known w) (found w) (ptes_in w ++ rest))) end) led.0))
     (omega arith)
 
-pub returns-in-None : goal.returns-in-None
+pub returns-in-None-clause-at : goal.returns-in-None-clause-at
 unfolding go_on
-returns-in-None c =
+returns-in-None-clause-at c =
     let w = c.args.self.now in
     let led = led_none w.config c.args.pte (sym c.table_led_to.ensures.page ∙ c.in-None.is) in
-    at_from _ _ _ _ _ _ _ _ _ c.decide_by_ptes.ensures
+    at_from _ _ _ _ _ _ _ _ _ c.decide_by_ptes.ensures.at
     (sym (ap (λ b. go_on b (walk w.config (va_of w.call) c.args.level c.args.left (page_led_to c.args.pte) (λ rest. loaded (issuer w) w.call (known w) (found w) (ptes_in w ++ rest))) (loaded (issuer w) w.call (known w) (found w) (ptes_in w))) led))
-    (omega arith) refl refl refl
+    (omega arith) refl refl refl refl refl

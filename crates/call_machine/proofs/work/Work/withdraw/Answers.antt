@@ -8,9 +8,9 @@ use Rattle.call_machine.proofs.At.{at_phase, decided_other}
 use Rattle.call_machine.proofs.Steps.{early_end}
 use Rattle.call_machine.proofs.work.Work.withdraw.Goals as goal
 
-pub returns-then-at-len : goal.returns-then-at-len
+pub returns-then-at-len-clause-at : goal.returns-then-at-len-clause-at
 unfolding phase_tree phase_stands phase_left draws drawn
-returns-then-at-len c =
+returns-then-at-len-clause-at c =
     let w = c.args.self.now in
     let at = c.early_from-at.result in
     let d = c.requires.decided in
@@ -21,9 +21,9 @@ returns-then-at-len c =
     ∙ sym (c.early_from-at.ensures.skips (objects_in w) w.stood.items (draws w None)))
     (omega (arith, c.early_from-at.ensures.on))
 
-pub returns-else-at-len : goal.returns-else-at-len
+pub returns-else-at-len-clause-at : goal.returns-else-at-len-clause-at
 unfolding phase_tree phase_stands phase_left draws drawn
-returns-else-at-len c =
+returns-else-at-len-clause-at c =
     let w = c.args.self.now in
     let at = c.early_from-at.result in
     let d = c.requires.decided in

@@ -13,9 +13,9 @@ use Rattle.call_machine.proofs.At.{decided_other}
 use Rattle.call_machine.proofs.Heads.{copy_step}
 use Rattle.call_machine.proofs.work.Work.word_loaded.Goals as goal
 
-pub returns : goal.returns
+pub returns-clause-at : goal.returns-clause-at
 unfolding phase_tree phase_stands phase_left draws drawn copied copies ends_after
-returns c =
+returns-clause-at c =
     let w = c.args.self.now in
     let at = c.args.at in
     let word = c.word_of-word.result in
@@ -45,4 +45,6 @@ returns c =
       end = sym (ap (ends_after w) step);
       config = refl;
       call = refl;
+      core = refl;
+      mode = refl;
     }

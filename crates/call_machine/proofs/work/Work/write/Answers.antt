@@ -27,4 +27,4 @@ returns-else-at-len c =
     (ap unlocks_of (take_whole (objects_in w) _ (omega (arith, objects_many w, c.len-left.ensures.value)))
     ∙ sym (writes_end (places (objects_in w)) w.stood.items w.wanted.items at (unlocks_of (objects_in w)) (omega (arith, places_many (objects_in w), c.requires.drawn.long, c.if-at-len.false, c.len.ensures.value)))
     ∙ sym (c.change_from-at.ensures.skips (places (objects_in w)) (unlocks_of (objects_in w)) (places_many (objects_in w) ∙ sym c.requires.drawn.long)))
-    (omega (arith, c.len-left.ensures.value)) refl refl refl
+    (omega (arith, c.len-left.ensures.value)) refl refl refl refl refl

@@ -25,4 +25,4 @@ returns c =
     let step = writes_one ps w.stood.items w.wanted.items c.args.at (objects.Enclave 0, 0) (unlocks_of (objects_in w)) below c.requires.stands.2 in
     at_from _ _ _ _ _ _ _ _ _ c.write.ensures
     (ap (λ n. writes_from ps w.stood.items w.wanted.items (n + 1) (unlocks_of (objects_in w))) c.from.ensures ∙ sym (ap (λ t. after t c.args.outcome.now) step))
-    (omega (arith, c.requires.stands.1, c.from.ensures)) (sym (ap (ends_after w) step)) refl refl
+    (omega (arith, c.requires.stands.1, c.from.ensures)) (sym (ap (ends_after w) step)) refl refl refl refl

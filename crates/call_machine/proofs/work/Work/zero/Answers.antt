@@ -31,4 +31,4 @@ returns-in-None c =
     ap (λ q. region_words_from w.config q c.args.from) (sym c.freed_by.ensures) ∙ c.next_word.ensures.none c.in-None.is in
     at_from _ _ _ _ _ _ _ _ _ c.write.ensures
     (ap (λ l. zeros l (writes_from (places (objects_in w)) w.stood.items w.wanted.items 0 (unlocks_of (objects_in w)))) (sym none))
-    (omega arith) refl refl refl
+    (omega arith) refl refl refl refl refl

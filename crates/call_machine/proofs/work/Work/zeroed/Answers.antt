@@ -30,4 +30,4 @@ returns c =
     let next = writes_from (places (objects_in w)) w.stood.items w.wanted.items 0 (unlocks_of (objects_in w)) in
     at_from _ _ _ _ _ _ _ _ _ c.zero.ensures
     (sym (ap (λ l. after (zeros l next) c.args.outcome.now) here))
-    (omega (arith, ap (λ l. length l) here)) (sym (ap (λ l. ends_after w (zeros l next)) here)) refl refl
+    (omega (arith, ap (λ l. length l) here)) (sym (ap (λ l. ends_after w (zeros l next)) here)) refl refl refl refl
