@@ -20,8 +20,8 @@ use Rattle.protocol.specs.CallTree.{Tree, Over, Makes, Issuer, call_tree, behind
 use Rattle.protocol.specs.Views.{Moves, held_by, held_of, answers_of, is_last, call_moves, are_any, issuer_of}
 use Rattle.protocol.specs.Permitted.{Follows, MayGoOn}
 use Rattle.protocol_laws.specs.Safe.{Safe}
-use Rattle.protocol_laws.proofs.Steps.{IsAtTree, MayLoad, stored_kept, at_taken, at_read, at_write, at_store, at_draw, at_unlock, at_load}
-use Rattle.protocol_steps.specs.Stages.{Stage, Locking, Met, Drawn, Astray, stage_tried, stage_locking, stage_met, stage_by, stage_of, MayMake, MayEnd, Goes}
+use Rattle.protocol_laws.proofs.Steps.{IsAtTree, stored_kept, at_taken, at_read, at_write, at_store, at_draw, at_unlock, at_load}
+use Rattle.protocol_steps.specs.Stages.{Stage, Locking, Met, Drawn, Astray, stage_tried, stage_locking, stage_met, stage_by, stage_of, MayMake, Goes}
 use Rattle.protocol_steps.specs.Laws.{IsLeftWith}
 use Rattle.protocol_steps.proofs.Views.{call_more, issuer_more, call_over}
 use Rattle.protocol_steps.proofs.Kept.{Kept}

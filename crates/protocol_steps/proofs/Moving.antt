@@ -45,8 +45,8 @@ use Rattle.protocol_laws.proofs.Agreeing.{agree_refl}
 use Rattle.protocol_laws.proofs.Standing.{rows_look, words_look, rows_more, words_more}
 use Rattle.protocol_laws.proofs.Frame.{AreApart, kept_apart, looks_draw, looks_lock, looks_counter, looks_trans}
 use Rattle.protocol_laws.proofs.Steps.{IsAtTree, stored_kept, at_others, at_taken, at_met, at_read, at_write, at_store, at_draw, at_unlock, at_load}
-use Rattle.protocol_steps.specs.Stages.{Stage, Locking, Met, Drawn, Astray, stage_of, Goes, MayMake}
-use Rattle.protocol_steps.proofs.Views.{call_more, issuer_more, call_over, entries_append, entries_same, entries_before, IsOver, undrawn, each_moves, draws}
+use Rattle.protocol_steps.specs.Stages.{stage_of, Goes}
+use Rattle.protocol_steps.proofs.Views.{call_more, issuer_more, call_over, entries_append, entries_same, each_moves, draws}
 use Rattle.protocol_steps.proofs.Goes.{goes_now}
 use Rattle.protocol_steps.proofs.Next.{none_drawn as undrawn_call, serial_next}
 use Rattle.protocol_steps.proofs.Kept.{AreOnce, CoreKept, Kept, core_frame, core_idle, after_more, mode_told, logs_more, drawn_sound, held_apart, not_free, low_ticket, log_mode, stands_still}

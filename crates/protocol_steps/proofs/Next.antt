@@ -2,7 +2,6 @@
 use Rattle.std.proofs.Common.{◌≡◌, ◌<◌, ℕ, false, List, length, ap, subst}
 use Rattle.mon_types.specs.Shape.{Shape}
 use Rattle.mon_types.specs.declared.call.Call.{Call}
-use Rattle.mon_records.specs.Ranges.{IsCall}
 use Rattle.protocol.specs.declared.action.Action.{Action}
 use Rattle.protocol.specs.declared.action.Action.TheVariants as actions
 use Rattle.protocol.specs.declared.action.Draft.{Draft}
