@@ -1,0 +1,10 @@
+pub mod Opening
+pub mod Counts
+pub mod Calls
+pub mod Begins
+pub mod Following
+pub mod Taking
+pub mod Carrying
+pub mod Over
+pub mod Adding
+pub mod Starting
