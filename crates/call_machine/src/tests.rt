@@ -256,7 +256,11 @@ fn a_lock_that_is_held_refuses_and_all_are_given_back(rt: HostRuntime) {
     let mut machine = begun(call);
     takes(&rt, &mut machine, E3, &LOADING);
     let held = Outcome::HeldBy { core: 0, serial: 5 };
-    makes(&rt, &mut machine, &(Action::TryLock { object: REGION_1 }, held));
+    makes(
+        &rt,
+        &mut machine,
+        &(Action::TryLock { object: REGION_1 }, held),
+    );
     follows(&rt, &mut machine, &[draws(call, reply, tried), gives(E3)]);
     ends(&rt, &machine, reply, After::Nothing, 33);
 }

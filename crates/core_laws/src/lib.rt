@@ -6,5 +6,6 @@
 mod laws;
 
 pub use laws::{
-    every_schedule, finished_is_one_history, given_runs, inputs_are_said, lines_are_permitted, schedules,
+    every_schedule, finished_is_one_history, given_runs, inputs_are_said, lines_are_permitted,
+    schedules,
 };

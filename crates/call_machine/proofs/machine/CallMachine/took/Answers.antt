@@ -24,5 +24,5 @@ pub returns-clause-found : goal.returns-clause-found
 returns-clause-found c =
     let w = c.self.inside.work in
     λ e. subst (λ (x : Called). IsFoundBy (tree_of x.work) c.args.outcome.now (so_far x.work) (found x.work) (so_far c.take.new.self)) c.self.view_is
-        (finds_by w w.phase c.args.outcome.now (so_far c.take.new.self) c.self.invariant.stands (ap (λ (x : Called). x.work.ends) c.self.view_is ∙ e)
-            (c.take.ensures.found (ap (λ (x : Called). x.work.ends) c.self.view_is ∙ e)))
+    (finds_by w w.phase c.args.outcome.now (so_far c.take.new.self) c.self.invariant.stands (ap (λ (x : Called). x.work.ends) c.self.view_is ∙ e)
+    (c.take.ensures.found (ap (λ (x : Called). x.work.ends) c.self.view_is ∙ e)))
