@@ -37,9 +37,11 @@ use Rattle.core_machine.specs.declared.work.Work.TheVariants as works
 use Rattle.core_machine.specs.declared.progress.Progress.{Progress}
 use Rattle.core_machine.specs.Own.{core_of, IsCounted, EntersSlot, DrawsInSlots, mode_with, counted}
 use Rattle.core_machine.specs.Meaning.{after_call, call_course, IsTold, Stands, due_in, due_at, due}
-use Rattle.core_machine.specs.Kept.{IsOwn, IsSound}
+use Rattle.core_machine.specs.Kept.{IsOwn, IsSound, weight}
+use Rattle.core_machine.specs.Effort.{effort, IsLeft}
 use Rattle.core_machine.specs.Follows.{core_after, Follows, told, GoesOn, Stops, moves_after, as_step, step_of, Gives, GoesBy, IsDueStep}
 use Rattle.core_machine.proofs.Counts.{move_counts}
+use Rattle.core_machine.proofs.Efforts.{less_left}
 
 -- ---- a core after a move
 
@@ -130,9 +132,11 @@ pub record HasGone (old new : Progress) : Type 0 where
   pub follows : (course : Course) (ms : Moves) → Follows old course ms → Follows new course ms
   pub counts : new.own.counts ≡ old.own.counts
   pub begun : (new.begun ≡ old.begun) ⊎ (new.begun ≡ old.own.counts)
+  pub number : new.own.number ≡ old.own.number
+  pub left : effort new ≤ effort old
 
 pub gone_nowhere : (k : Progress) → IsSound k → HasGone k k
-gone_nowhere k s = record { sound = s; follows = λ course ms f. f; counts = refl; begun = inl refl }
+gone_nowhere k s = record { sound = s; follows = λ course ms f. f; counts = refl; begun = inl refl; number = refl; left = omega arith }
 
 -- a line that is begun in one step more
 pub begun_on : (old mid new : Progress) → HasGone old mid → (new.begun ≡ mid.begun) ⊎ (new.begun ≡ mid.own.counts) → (new.begun ≡ old.begun) ⊎ (new.begun ≡ old.own.counts)
@@ -144,12 +148,14 @@ begun_on old mid new h (inl e) = begun_same h.begun e
     begun_same (inr f) e = inr (e ∙ f)
 
 -- one step more
-pub gone_on : (old mid new : Progress) → HasGone old mid → IsSound new → GoesOn mid new → (new.begun ≡ mid.begun) ⊎ (new.begun ≡ mid.own.counts) → HasGone old new
-gone_on old mid new h s g b = record {
+pub gone_on : (old mid new : Progress) → HasGone old mid → IsSound new → GoesOn mid new → (new.begun ≡ mid.begun) ⊎ (new.begun ≡ mid.own.counts) → weight new < weight mid → HasGone old new
+gone_on old mid new h s g b low = record {
   sound = s;
   follows = λ course ms f. goes_follows mid new course ms g (h.follows course ms f);
   counts = g.counts ∙ h.counts;
   begun = begun_on old mid new h b;
+  number = g.number ∙ h.number;
+  left = let less = less_left mid new low in omega (arith, less, h.left);
 }
 
 -- ---- what is given
@@ -204,3 +210,11 @@ gives_step old mid new (steps.Move move) h g = absurd g
 pub step_due : (mid new : Progress) (step : Step) → GoesBy mid (Some step) new → IsDueStep new (Some step)
 step_due mid new (steps.Stop line why) g = tt
 step_due mid new (steps.Move move) g = absurd g
+
+pub step_number : (mid new : Progress) (step : Step) → GoesBy mid (Some step) new → new.own.number ≡ mid.own.number
+step_number mid new (steps.Stop line why) g = g.number
+step_number mid new (steps.Move move) g = absurd g
+
+pub step_left : (old mid new : Progress) (step : Step) → HasGone old mid → GoesBy mid (Some step) new → weight new < weight mid → IsLeft (effort old) (Some step) (effort new)
+step_left old mid new (steps.Stop line why) h g low = let less = less_left mid new low in omega (arith, less, h.left)
+step_left old mid new (steps.Move move) h g low = absurd g

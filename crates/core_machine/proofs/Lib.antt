@@ -8,3 +8,4 @@ pub mod Carrying
 pub mod Over
 pub mod Adding
 pub mod Starting
+pub mod Efforts

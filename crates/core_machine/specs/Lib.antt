@@ -5,3 +5,4 @@ pub mod Meaning
 pub mod Kept
 pub mod Follows
 pub mod Start
+pub mod Effort

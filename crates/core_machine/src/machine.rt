@@ -6,13 +6,14 @@ ghost use Rattle.core_behaviour.specs.Course.{Course, first_of, left_of};
 ghost use Rattle.protocol.specs.Views.{Moves};
 ghost use Rattle.core_machine.specs.Meaning.{due, calling_of};
 ghost use Rattle.core_machine.specs.Kept.{IsSound, IsWithin, weight};
+ghost use Rattle.core_machine.specs.Effort.{effort, IsLeft, AreInBudget, IsFresh};
 ghost use Rattle.core_machine.specs.Follows.{Follows, Gives, GoesBy, told, IsDueOutcome, IsDueStep};
 ghost use Rattle.core_machine.specs.Start.{AreLines};
 
 use crate::progress::Progress;
 use crate::step::Step;
 use crate::work::Work;
-use mon_types::{Image, Items, Line};
+use mon_types::{Image, Items, Line, Mode};
 use protocol::{Move, Outcome};
 use std::marker::Model;
 
@@ -69,6 +70,8 @@ impl Progress {
         ensures gives { (course : Course) (ms : Moves) → Follows self.old course ms → Gives self.new course ms result }
         ensures due { IsDueStep self.new result }
         ensures begun { (self.new.begun ≡ self.old.begun) ⊎ (self.new.begun ≡ self.old.own.counts) }
+        ensures number { self.new.own.number ≡ self.old.own.number }
+        ensures left { IsLeft (effort self.old) result (effort self.new) }
     {
         'work: loop {
             if let Some(due) = self.due() {
@@ -91,11 +94,15 @@ impl Progress {
         ensures follows { (course : Course) (ms : Moves) → Follows self.old course ms → Follows self.new course (told (first_of (left_of course ms)) outcome.now ms) }
         ensures begun { self.new.begun ≡ self.old.begun }
         ensures within { IsWithin self.new 79 600 }
+        ensures number { self.new.own.number ≡ self.old.own.number }
+        ensures left { effort self.new < effort self.old }
     {
         match self.work {
             Work::Calls { .. } => {
                 self.own.count(&self.call.next(), outcome);
                 self.call.took(outcome);
+                // A call makes few moves, so less is left of it.
+                let _made = self.call.made();
             }
             _ => unreachable!(),
         }
@@ -140,6 +147,10 @@ impl CoreMachine {
         ensures due { IsDueStep self.new result }
         // Private work logs nothing but stops, so these are the counts where the line began.
         ensures begun { (self.new.begun ≡ self.old.begun) ⊎ (self.new.begun ≡ self.old.own.counts) }
+        ensures number { self.new.own.number ≡ self.old.own.number }
+        ensures left { IsLeft (effort self.old) result (effort self.new) }
+        ensures budget { AreInBudget self.new.own.counts }
+        ensures fresh { IsFresh self.new }
     {
         self.progress.next()
     }
@@ -152,8 +163,18 @@ impl CoreMachine {
         // A line needs no more than 600 answers and 79 events, a Limit not counted, over the counts at its begin.
         ensures answers { self.new.own.counts.answers ≤ self.new.begun.answers + 600 }
         ensures events { self.new.own.counts.events ≤ self.new.begun.events + 79 }
+        ensures number { self.new.own.number ≡ self.old.own.number }
+        ensures left { effort self.new < effort self.old }
+        ensures budget { AreInBudget self.new.own.counts }
     {
         self.progress.took(outcome);
+    }
+
+    /// For whom the core runs.
+    pub fn mode(&self) -> Mode
+        ensures { result ≡ self.now.own.mode }
+    {
+        self.progress.own.mode
     }
 
     /// The serial of the monitor call of which `next` gave a move and whose last outcome was not told yet.

@@ -1,7 +1,7 @@
 use Rattle.std.proofs.Common.{◌≡◌, ◌∙◌, Option, Some, None, refl, sym, subst}
 use Rattle.core_machine.specs.declared.step.Step.{Step}
 use Rattle.core_machine.specs.Follows.{GoesBy}
-use Rattle.core_machine.proofs.Following.{gone_on, begun_on, gives_move, gives_none, gives_step, step_due}
+use Rattle.core_machine.proofs.Following.{gone_on, begun_on, gives_move, gives_none, gives_step, step_due, step_number, step_left}
 use Rattle.core_machine.proofs.progress.Progress.next.Goals as goal
 
 pub returns-in-Some-clause-gives : goal.returns-in-Some-clause-gives
@@ -19,6 +19,8 @@ returns-in-Some-go_on c =
       gives = gives_step old c.work.self c.go_on.new.self c.in-Some-go_on.stop c.work.invariant goes;
       due = step_due c.work.self c.go_on.new.self c.in-Some-go_on.stop goes;
       begun = begun_on old c.work.self c.go_on.new.self c.work.invariant c.go_on.ensures.begun;
+      number = step_number c.work.self c.go_on.new.self c.in-Some-go_on.stop goes ∙ c.work.invariant.number;
+      left = step_left old c.work.self c.go_on.new.self c.in-Some-go_on.stop c.work.invariant goes c.go_on.ensures.low;
     }
 
 none_if : (r : Option Step) → ((x : Step) → r ≡ Some x → ⊥) → r ≡ None
@@ -28,4 +30,4 @@ none_if (Some x) h = absurd (h x refl)
 pub work-preserved : goal.work-preserved
 work-preserved c =
     let goes = subst (λ r. GoesBy c.work.self r c.go_on.new.self) (none_if c.go_on.result c.in_default-go_on.not-Some) c.go_on.ensures.goes in
-    gone_on c.args.self.now c.work.self c.go_on.new.self c.work.invariant c.go_on.ensures.sound goes c.go_on.ensures.begun
+    gone_on c.args.self.now c.work.self c.go_on.new.self c.work.invariant c.go_on.ensures.sound goes c.go_on.ensures.begun c.go_on.ensures.low

@@ -1,6 +1,9 @@
-use Rattle.std.proofs.Common.{◌≡◌, Some, sym, subst}
+use Rattle.std.proofs.Common.{◌≡◌, ◌∙◌, true, Some, ap, sym, refl, subst, arith}
+use Rattle.mon_types.specs.Shape.{is_shape}
 use Rattle.core_machine.specs.Meaning.{due_at}
-use Rattle.core_machine.specs.Kept.{IsWithin, IsSound}
+use Rattle.core_machine.specs.declared.own.Own.{Own}
+use Rattle.core_machine.specs.Kept.{IsWithin, IsSound, work_stands}
+use Rattle.core_machine.proofs.Efforts.{few_made, move_left}
 use Rattle.core_machine.specs.Follows.{Follows, told}
 use Rattle.core_behaviour.specs.Course.{first_of, left_of}
 use Rattle.core_machine.proofs.Taking.{not_due, due_over, due_outcome, few_now, slots_now, sound_new, within_new, follows_new}
@@ -54,3 +57,15 @@ returns-clause-follows c = λ course ms f.
 
 pub unreachable-requires : goal.unreachable-requires
 unreachable-requires c = not_due c.args.self.now c.args.self.now.work c.requires.due.0 c.requires.due.2 c.in_default.not-Calls
+
+pub returns-clause-number : goal.returns-clause-number
+returns-clause-number c = ap (λ (own : Own). own.number) c.count.ensures
+
+pub returns-clause-left : goal.returns-clause-left
+unfolding work_stands
+returns-clause-left c =
+    let k = c.args.self.now in
+    let stands = subst (work_stands k) c.in-Calls.is c.requires.sound.stands in
+    let same = c.took.ensures.config ∙ stands.1.config in
+    let few = few_made c.took.new.self.work.config (subst (λ shape. is_shape shape ≡ true) (sym same) c.requires.sound.own.valid) c.took.new.self.work.call in
+    move_left k (record k { own = c.count.new.self; call = c.took.new.self }) refl c.took.ensures.made (omega (arith, few, c.made-made.ensures.made, c.made-made.ensures.most))

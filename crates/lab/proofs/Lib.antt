@@ -1,0 +1,11 @@
+pub mod Fair
+pub mod Leaving
+pub mod Growing
+pub mod Making
+pub mod Giving
+pub mod Ways
+pub mod Among
+pub mod Turns
+pub mod Starts
+pub mod Ends
+pub mod Resting
