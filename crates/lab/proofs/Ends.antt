@@ -72,8 +72,8 @@ leaves image script run b left t s logs answers modes tables =
     (sym of_run.threads)
     (sym of_run.flushed)
     (modes ∙ cores_map (λ k. k.machine.own.mode) (λ core. mode_in core (moves_of core run)) b.cores.items n s.count (λ core k e.
-        let h = s.each core k e in
-        subst (λ j. k.machine.own.mode ≡ mode_after (entries_of (core_log j (moves_of core run)))) h.number (sym h.follows.counts.mode)))
+    let h = s.each core k e in
+    subst (λ j. k.machine.own.mode ≡ mode_after (entries_of (core_log j (moves_of core run)))) h.number (sym h.follows.counts.mode)))
     (sym of_run.words)
 
 -- an item of a list below its length

@@ -104,12 +104,15 @@ module _ (image : Image) (script : List (List Line)) (core : ℕ) (run : List Ma
 
   is_given : IsGiven image.config (start_words image) image.config.cores world
   unfolding world
-  is_given = (run, record {
-    permitted = is_run;
-    cores = all_low image run g.made.given;
-    words = λ p h. refl;
-    moves = λ c. refl;
-  })
+  is_given = (
+    run,
+    record {
+      permitted = is_run;
+      cores = all_low image run g.made.given;
+      words = λ p h. refl;
+      moves = λ c. refl;
+    },
+  )
 
   is_placed : IsPlaced image.config (place_of move)
   unfolding world

@@ -66,7 +66,7 @@ pub words_more : (image : Image) (script : List (List Line)) (core : ℕ) (run :
 words_more image script core run k words later serial g move first is_due fresh is shape stands =
     let memory : Memory = memory_after image.config (start_words image) run in
     let same = same_after (lock_word core serial) (own_lock_word core (moves_of core run)) memory move
-        (λ o e. ap (lock_word core) is ∙ serial_is image script core run k words g move first is_due fresh o e) in
+    (λ o e. ap (lock_word core) is ∙ serial_is image script core run k words g move first is_due fresh o e) in
     record {
       shape = shape ∙ g.listed.shape;
       holds = subst (StandsFor later) (same ∙ sym (memory_more image core move run)) (stands memory g.listed.holds);

@@ -101,7 +101,7 @@ module _ (image : Image) (script : List (List Line)) (core : ℕ) (run : List Ma
     stop_same =
         stepped_is image script run core
         ∙ stops_first image core (course_of image script core) ((moves.Stop line why, outcomes.Done) ∷ []) (moves_of core run) run
-            (record { line = line; why = why; move = refl; done = refl }, tt) (g.made.lines core g.low, stop_first)
+        (record { line = line; why = why; move = refl; done = refl }, tt) (g.made.lines core g.low, stop_first)
         ∙ ap (λ z. step_from image core (left_of (course_of image script core) z) (stop_made core line why ∷ run)) (sym stop_own)
         ∙ sym (stepped_is image script (stop_made core line why ∷ run) core)
 
@@ -167,8 +167,7 @@ step_moves core old mid new words later last m move way number tells makes image
     let c = way image script run g in
     let gives = tells (course_of image script core) (moves_of core c.mid) c.goes.own.follows in
     let given = move_given (first_of (course_left image script core c.mid)) move gives.first in
-    let same = c.same ∙ stepped_is image script c.mid core ∙ one_move image core (course_left image script core c.mid) move c.mid given.0 given.1 in
-    (
+    let same = c.same ∙ stepped_is image script c.mid core ∙ one_move image core (course_left image script core c.mid) move c.mid given.0 given.1 in (
       subst (λ z. Goes image script core z new last) (sym same)
           (makes image script c.mid (told_core image script core c.mid mid later m c.goes number gives.follows) given.0),
       c.left ∙ move_makes (course_left image script core c.mid) move given.0 given.1,
@@ -184,8 +183,7 @@ step_ends core old mid words later m way number tells image script run g =
     let c = way image script run g in
     let gives = tells (course_of image script core) (moves_of core c.mid) c.goes.own.follows in
     let over = none_given (first_of (course_left image script core c.mid)) gives.first in
-    let same = c.same ∙ stepped_is image script c.mid core ∙ no_move image core (course_left image script core c.mid) c.mid over in
-    (
+    let same = c.same ∙ stepped_is image script c.mid core ∙ no_move image core (course_left image script core c.mid) c.mid over in (
       subst (λ z. Goes image script core z (record mid { machine = m; ended = true }) later) (sym same) (record {
         low = c.goes.low;
         made = c.goes.made;

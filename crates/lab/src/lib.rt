@@ -13,7 +13,5 @@ mod lab_core;
 mod logging;
 mod room;
 mod stepping;
-#[cfg(test)]
-mod tests;
 
 pub use lab::Lab;

@@ -37,7 +37,10 @@ fn touched_by(region: u8, since: u32, before: bool, event: &Event) -> bool
                 before
             }
         }
-        Event::Touch { region: other, since: began } => (*other == region && *began == since) || before,
+        Event::Touch {
+            region: other,
+            since: began,
+        } => (*other == region && *began == since) || before,
         Event::Stop { .. } => before,
     }
 }
